@@ -1,0 +1,6 @@
+pub mod DigitLemmas
+pub mod NumberLemmas
+pub mod PlaceLemmas
+pub mod WriterLemmas
+pub mod ItemLemmas
+pub mod ArithmeticLemmas
