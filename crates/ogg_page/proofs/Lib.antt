@@ -1,0 +1,10 @@
+pub mod SumLemmas
+pub mod DivisionLemmas
+pub mod StepLemmas
+pub mod TableLemmas
+pub mod PageLemmas
+pub mod WrittenLemmas
+pub mod PagesLemmas
+pub mod PacketLemmas
+pub mod OutputLemmas
+pub mod StreamLemmas

@@ -1,0 +1,7 @@
+pub mod Division
+pub mod Faults
+pub mod Page
+pub mod Written
+pub mod Packets
+pub mod Granule
+pub mod OutputPages
