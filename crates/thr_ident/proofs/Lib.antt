@@ -1,0 +1,5 @@
+pub mod FieldLemmas
+pub mod CommentLemmas
+pub mod RuleLemmas
+pub mod LayoutLemmas
+pub mod IdentLemmas
