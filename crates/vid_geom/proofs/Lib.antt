@@ -1,0 +1,10 @@
+pub mod ListLemmas
+pub mod NumberLemmas
+pub mod SquareLemmas
+pub mod CellLemmas
+pub mod OrderLemmas
+pub mod SizeLemmas
+pub mod TableLemmas
+pub mod MacroBlockLemmas
+pub mod SuperblockLemmas
+pub mod OwnerLemmas

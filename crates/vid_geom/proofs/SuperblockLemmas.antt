@@ -1,0 +1,105 @@
+-- The places of a superblock, plane by plane, and that superblocks follow one another. Geom and the layers above cite these.
+use Rattle.std.proofs.Common.{◌≡◌, ◌∙◌, ℕ, zero, suc, ◌+◌, ◌<◌, ◌≤◌, ◌==◌, if◌then◌else◌, List, [], ◌∷◌, ◌++◌, length, get_or, take, drop, map, Some, slice_get, refl, sym, ap, arith, length-append}
+use Rattle.std.proofs.lemmas.List.{length-map, take_more, take_all, append-nil, take-append-drop}
+use Rattle.std.proofs.lemmas.Option.{slice_get_within, same_Some}
+use Rattle.vid_base.specs.declared.shape.Shape.{Shape}
+use Rattle.vid_geom.specs.declared.block.Block.{Block}
+use Rattle.vid_geom.specs.declared.grid.Grid.{Grid}
+use Rattle.vid_geom.specs.Squares.{squares, joined}
+use Rattle.vid_geom.specs.CodedOrder.{block_grid, plane_blocks, blocks_before, block_of, superblocks_of, superblocks, order_of, ranges_from, superblock_ranges}
+use Rattle.vid_geom.proofs.ListLemmas.{joined-append, slice_get-append_left, slice_get-append_right}
+use Rattle.vid_geom.proofs.NumberLemmas.{slice_get-ranges_from, length-ranges_from, ranges_from-append, ranges_from-map}
+use Rattle.vid_geom.proofs.OrderLemmas.{order_in_is, length-order_in}
+
+-- how many superblocks a plane has, and the planes before it
+abbrev pub plane_superblocks : Shape → ℕ → ℕ
+plane_superblocks s pli = length (squares (block_grid s pli))
+
+abbrev pub superblocks_before : Shape → ℕ → ℕ
+superblocks_before s pli = if pli == 0 then 0 else if pli == 1 then plane_superblocks s 0 else plane_superblocks s 0 + plane_superblocks s 1
+
+length-superblocks_of : (s : Shape) (pli : ℕ) → length (superblocks_of s pli) ≡ plane_superblocks s pli
+unfolding superblocks_of
+length-superblocks_of s pli = length-map (squares (block_grid s pli)) (map (block_of pli))
+
+pub length-superblocks : (s : Shape) → length (superblocks s) ≡ plane_superblocks s 0 + plane_superblocks s 1 + plane_superblocks s 2
+unfolding superblocks
+length-superblocks s = omega (arith, length-append (superblocks_of s 0 ++ superblocks_of s 1) (superblocks_of s 2), length-append (superblocks_of s 0) (superblocks_of s 1), length-superblocks_of s 0, length-superblocks_of s 1, length-superblocks_of s 2)
+
+length-joined : (s : Shape) (pli : ℕ) → length (joined (superblocks_of s pli)) ≡ plane_blocks s pli
+length-joined s pli = ap length (order_in_is s pli) ∙ length-order_in s pli
+
+ranges_in : (s : Shape) (pli from : ℕ) → ranges_from from (superblocks_of s pli) ≡ ranges_from from (squares (block_grid s pli))
+unfolding superblocks_of
+ranges_in s pli from = ranges_from-map (block_of pli) from (squares (block_grid s pli))
+
+-- the places of the superblocks of each plane
+abbrev ranges_in_y : Shape → List (ℕ × ℕ)
+ranges_in_y s = ranges_from 0 (squares (block_grid s 0))
+
+abbrev ranges_in_cb : Shape → List (ℕ × ℕ)
+ranges_in_cb s = ranges_from (plane_blocks s 0) (squares (block_grid s 1))
+
+abbrev ranges_in_cr : Shape → List (ℕ × ℕ)
+ranges_in_cr s = ranges_from (plane_blocks s 0 + plane_blocks s 1) (squares (block_grid s 2))
+
+-- they stand behind one another
+ranges_is : (s : Shape) → superblock_ranges s ≡ ranges_in_y s ++ ranges_in_cb s ++ ranges_in_cr s
+unfolding superblock_ranges superblocks
+ranges_is s =
+    let first : 0 + length (joined (superblocks_of s 0)) ≡ plane_blocks s 0 = omega (arith, length-joined s 0) in
+    let second : 0 + length (joined (superblocks_of s 0 ++ superblocks_of s 1)) ≡ plane_blocks s 0 + plane_blocks s 1 =
+    rw joined-append (omega (arith, length-append (joined (superblocks_of s 0)) (joined (superblocks_of s 1)), length-joined s 0, length-joined s 1)) in
+    ranges_from-append 0 (superblocks_of s 0 ++ superblocks_of s 1) (superblocks_of s 2)
+    ∙ rw (second, ranges_from-append 0 (superblocks_of s 0) (superblocks_of s 1), first, ranges_in s 0 0, ranges_in s 1 (plane_blocks s 0), ranges_in s 2 (plane_blocks s 0 + plane_blocks s 1)) refl
+
+-- a superblock of a plane among those of the frame
+pub range_in_plane : (s : Shape) (pli k : ℕ) (r : ℕ × ℕ) → pli < 3 → slice_get (ranges_from (blocks_before s pli) (squares (block_grid s pli))) k ≡ Some r
+    → slice_get (superblock_ranges s) (superblocks_before s pli + k) ≡ Some r
+range_in_plane s zero k r p h =
+    let l : k < length (ranges_in_y s) = slice_get_within (ranges_in_y s) k r h in
+    let e : 0 + k ≡ k = omega arith in
+    rw (e, ranges_is s) (slice_get-append_left (ranges_in_y s ++ ranges_in_cb s) (ranges_in_cr s) k (omega (arith, length-append (ranges_in_y s) (ranges_in_cb s))) ∙ slice_get-append_left (ranges_in_y s) (ranges_in_cb s) k l ∙ h)
+range_in_plane s (suc zero) k r p h =
+    let l : k < length (ranges_in_cb s) = slice_get_within (ranges_in_cb s) k r h in
+    let y : length (ranges_in_y s) ≡ plane_superblocks s 0 = length-ranges_from 0 (squares (block_grid s 0)) in
+    rw (ranges_is s) (slice_get-append_left (ranges_in_y s ++ ranges_in_cb s) (ranges_in_cr s) (plane_superblocks s 0 + k) (omega (arith, length-append (ranges_in_y s) (ranges_in_cb s))) ∙ slice_get-append_right (ranges_in_y s) (ranges_in_cb s) (plane_superblocks s 0) k y ∙ h)
+range_in_plane s (suc (suc zero)) k r p h =
+    let y : length (ranges_in_y s) ≡ plane_superblocks s 0 = length-ranges_from 0 (squares (block_grid s 0)) in
+    let cb : length (ranges_in_cb s) ≡ plane_superblocks s 1 = length-ranges_from (plane_blocks s 0) (squares (block_grid s 1)) in
+    rw (ranges_is s) (slice_get-append_right (ranges_in_y s ++ ranges_in_cb s) (ranges_in_cr s) (plane_superblocks s 0 + plane_superblocks s 1) k (omega (arith, length-append (ranges_in_y s) (ranges_in_cb s))) ∙ h)
+range_in_plane s (suc (suc (suc n))) k r p h = absurd (omega arith)
+
+-- a superblock's places follow those of the superblocks before it
+pub record IsRange (s : Shape) (k : ℕ) (r : ℕ × ℕ) : Type 0 where
+  pub first : r.0 ≡ length (joined (take k (superblocks s)))
+  pub past : r.1 ≡ length (joined (take (k + 1) (superblocks s)))
+  pub within : r.1 ≤ length (order_of s)
+
+joined_one_more : (lists : List (List Block)) (k : ℕ) → k < length lists → length (joined (take (k + 1) lists)) ≡ length (joined (take k lists)) + length (get_or lists k [])
+unfolding joined
+joined_one_more lists k h = ap (λ l. length (joined l)) (take_more lists k [] h) ∙ ap length (joined-append (take k lists) (get_or lists k [] ∷ []) ∙ ap (λ l. joined (take k lists) ++ l) (append-nil (get_or lists k []))) ∙ length-append (joined (take k lists)) (get_or lists k [])
+
+joined_part : (lists : List (List Block)) (k : ℕ) → length (joined (take k lists)) ≤ length (joined lists)
+joined_part lists k = omega (arith, ap (λ l. length (joined l)) (sym (take-append-drop k lists)) ∙ ap length (joined-append (take k lists) (drop k lists)) ∙ length-append (joined (take k lists)) (joined (drop k lists)))
+
+pub range_is : (s : Shape) (k : ℕ) (r : ℕ × ℕ) → slice_get (superblock_ranges s) k ≡ Some r → IsRange s k r
+unfolding superblock_ranges order_of
+range_is s k r h =
+    let lists : List (List Block) = superblocks s in
+    let l : k < length lists = omega (arith, slice_get_within (ranges_from 0 lists) k r h, length-ranges_from 0 lists) in
+    let e = same_Some r (0 + length (joined (take k lists)), 0 + length (joined (take k lists)) + length (get_or lists k [])) (sym h ∙ slice_get-ranges_from 0 lists k l) in
+    let past : r.1 ≡ length (joined (take (k + 1) lists)) = omega (arith, ap (λ q. q.1) e, joined_one_more lists k l) in
+    record { first = omega (arith, ap (λ q. q.0) e); past = past; within = omega (arith, joined_part lists (k + 1)) }
+
+-- a superblock of a plane, where the place among the frame's is given
+pub range_at_place : (s : Shape) (pli k place from : ℕ) (g : Grid) (r : ℕ × ℕ) → pli < 3 → superblocks_before s pli + k ≡ place → from ≡ blocks_before s pli → g ≡ block_grid s pli
+    → slice_get (ranges_from from (squares g)) k ≡ Some r → slice_get (superblock_ranges s) place ≡ Some r
+range_at_place s pli k place from g r p e f b h =
+    let own : slice_get (ranges_from (blocks_before s pli) (squares (block_grid s pli))) k ≡ Some r = rw (f, b) at h in
+    rw e at (range_in_plane s pli k r p own)
+
+-- the last superblock's places end where the frame's do
+pub past_last : (s : Shape) → length (joined (take (length (superblocks s)) (superblocks s))) ≡ length (order_of s)
+unfolding order_of
+past_last s = ap (λ l. length (joined l)) (take_all (length (superblocks s)) (superblocks s) (omega arith))

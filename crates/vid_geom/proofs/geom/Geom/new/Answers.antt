@@ -1,0 +1,5 @@
+use Rattle.vid_geom.proofs.SizeLemmas.{block_grid_small}
+use Rattle.vid_geom.proofs.geom.Geom.new.Goals as goal
+
+pub new-requires : goal.new-requires
+new-requires c = rw c.block_grid.ensures (block_grid_small c.args.shape 0)

@@ -1,0 +1,7 @@
+use Rattle.std.proofs.Common.{◌≡◌}
+use Rattle.std.specs.List.{flat_map, range_with_len}
+use Rattle.vid_geom.specs.Squares.{joined, square_row}
+use Rattle.vid_geom.proofs.tables.cells_of.Given as goal
+
+abbrev pub invariant-loop-row : goal.invariant-loop-row
+invariant-loop-row l = l.order.items ≡ joined (flat_map (square_row l.grid) (range_with_len 0 l.row))

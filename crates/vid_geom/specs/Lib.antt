@@ -1,0 +1,5 @@
+pub mod Squares
+pub mod Tables
+pub mod CodedOrder
+pub mod MacroBlocks
+pub mod Layout

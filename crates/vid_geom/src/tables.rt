@@ -1,0 +1,75 @@
+// The cells of a grid in the order in which they are walked through, and the place of each (Theora I, 2.3 and 2.4).
+ghost use Rattle.std.specs.Prelude.{◌≡◌, ◌*◌, ◌<◌, ◌^◌, ◌++◌, length, OnOk, IfOk};
+ghost use Rattle.vid_geom.specs.Squares.{only_inside, square, square_row, joined, cells};
+ghost use Rattle.vid_geom.specs.Tables.{IsSmall, HasPlaces};
+
+use crate::grid::{Cell, Grid};
+use std::alloc::Global;
+use vid_base::NoMem;
+
+// Adds the cell if the grid has it.
+fn push_inside(out: &mut Vec<Cell>, grid: Grid, cell: Cell) -> Result<(), NoMem>
+    ensures { OnOk result (out.new.items ≡ out.old.items ++ only_inside grid cell) }
+{
+    if cell.col < grid.width && cell.row < grid.height {
+        out.push(cell)?;
+    }
+    Ok(())
+}
+
+// Adds the cells of a square.
+fn push_square(out: &mut Vec<Cell>, grid: Grid, col: u32, row: u32) -> Result<(), NoMem>
+    requires col { col < 2 ^ 20 }
+    requires row { row < 2 ^ 20 }
+    ensures { OnOk result (out.new.items ≡ out.old.items ++ square grid col row) }
+{
+    let right = grid.walk.side() * col;
+    let up = grid.walk.side() * row;
+    let path = grid.walk.path();
+    for step in path {
+        let cell = Cell {
+            col: right + step.col,
+            row: up + step.row,
+        };
+        push_inside(out, grid, cell)?;
+    }
+    Ok(())
+}
+
+// Adds the cells of a row of squares.
+fn push_row(out: &mut Vec<Cell>, grid: Grid, row: u32) -> Result<(), NoMem>
+    requires small { IsSmall grid }
+    requires row { row < 2 ^ 20 }
+    ensures { OnOk result (out.new.items ≡ out.old.items ++ joined (square_row grid row)) }
+{
+    for col in 0..grid.squares_across() {
+        push_square(out, grid, col, row)?;
+    }
+    Ok(())
+}
+
+/// All cells of a grid in order.
+pub fn cells_of(alloc: Global, grid: Grid) -> Result<Vec<Cell>, NoMem>
+    requires { IsSmall grid }
+    ensures { IfOk result (λ v. v.items ≡ cells grid) }
+{
+    let mut order = Vec::with_capacity(alloc, (grid.width * grid.height) as usize)?;
+    for row in 0..grid.squares_up() {
+        push_row(&mut order, grid, row)?;
+    }
+    Ok(order)
+}
+
+/// The place of each cell in raster order.
+pub fn places_of(alloc: Global, grid: Grid, order: &[Cell]) -> Result<Vec<u32>, NoMem>
+    requires small { IsSmall grid }
+    requires order { order.now ≡ cells grid }
+    ensures whole { IfOk result (λ v. length v.items ≡ grid.width * grid.height) }
+    ensures placed { IfOk result (λ v. HasPlaces grid order.now v.items) }
+{
+    let mut places = vec![in alloc; 0; (grid.width * grid.height) as usize]?;
+    for (place, cell) in order.iter().enumerate() {
+        places[(cell.row * grid.width + cell.col) as usize] = place as u32;
+    }
+    Ok(places)
+}
