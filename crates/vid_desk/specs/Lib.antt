@@ -1,0 +1,4 @@
+pub mod Meaning
+pub mod Memory
+pub mod Entry
+pub mod Counts
