@@ -1,0 +1,5 @@
+pub mod CodeLemmas
+pub mod TreeLemmas
+pub mod TableLemmas
+pub mod ForestLemmas
+pub mod RowLemmas
