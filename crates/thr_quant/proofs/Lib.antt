@@ -1,0 +1,10 @@
+pub mod FieldLemmas
+pub mod WidthLemmas
+pub mod RangeLemmas
+pub mod StretchLemmas
+pub mod MatrixLemmas
+pub mod WritingLemmas
+pub mod ReadingBackLemmas
+pub mod RangesBackLemmas
+pub mod PairsLemmas
+pub mod MeetingLemmas

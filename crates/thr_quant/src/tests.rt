@@ -1,0 +1,194 @@
+ghost use Rattle.thr_quant.specs.Ranges.{NameMatrices};
+
+use crate::*;
+use arrayvec::ArrayVec;
+use std::alloc::Global;
+use std::process::Abort;
+use vid_base::{BitReader, BitWriter, PacketFault, Refusal};
+
+// Puts fields of a value and a width each, so many times.
+fn put(rt: &impl Abort, w: &mut BitWriter, times: u32, fields: &[(u32, u32)]) {
+    for _ in 0..times {
+        for (value, n) in fields {
+            assert!(rt; *n <= 32 && (*n == 32 || *value < 1u32 << *n));
+            assert_eq!(rt; w.put(*value, *n), Ok(()));
+        }
+    }
+}
+
+// One range over all indices, with matrix 0 at both ends.
+fn one_range() -> Ranges
+    ensures { NameMatrices 1 result }
+{
+    let mut list = ArrayVec::new();
+    list.push(Range { size: 63, next: 0 });
+    Ranges { start: 0, list }
+}
+
+// Scales that fall evenly, and one matrix that rises from the upper left.
+fn even_ramps(rt: &impl Abort, alloc: Global) -> Ramps {
+    let mut ac = [0; 64];
+    let mut dc = [0; 64];
+    for qi in 0..64usize {
+        ac[qi] = 10 + 8 * (63 - qi as u16);
+        dc[qi] = 10 + 3 * (63 - qi as u16);
+    }
+    let mut matrix = [0; 64];
+    for k in 0..64usize {
+        matrix[k] = 16 + 4 * (k as u8 / 8 + k as u8 % 8);
+    }
+    let mut matrices = Vec::new(alloc);
+    assert!(rt; matrices.push(matrix).is_ok());
+    Ramps {
+        ac,
+        dc,
+        matrices,
+        intra: [one_range(), one_range(), one_range()],
+        inter: [one_range(), one_range(), one_range()],
+    }
+}
+
+// Three flat matrices of 10, 30 and 90. The ranges of intra Y have all three; those of intra Cb are copied; intra Cr
+// and inter Y have one range each; inter Cb is copied from inter Y, and inter Cr from intra Cr.
+fn flat_ramps(rt: &impl Abort, alloc: Global) -> Vec<u8> {
+    let mut w = BitWriter::new(alloc);
+    put(rt, &mut w, 1, &[(15, 4)]);
+    put(rt, &mut w, 20, &[(100, 16)]);
+    put(rt, &mut w, 1, &[(65_535, 16)]);
+    put(rt, &mut w, 43, &[(100, 16)]);
+    put(rt, &mut w, 1, &[(0, 4), (0, 32), (0, 32), (2, 9)]);
+    put(rt, &mut w, 64, &[(10, 8)]);
+    put(rt, &mut w, 64, &[(30, 8)]);
+    put(rt, &mut w, 64, &[(90, 8)]);
+    let intra_y = [(0, 2), (9, 6), (1, 2), (49, 6), (2, 2), (2, 2), (0, 2)];
+    put(rt, &mut w, 1, &intra_y);
+    put(rt, &mut w, 1, &[(0, 1)]);
+    put(rt, &mut w, 1, &[(1, 1), (2, 2), (62, 6), (0, 2)]);
+    put(rt, &mut w, 1, &[(1, 1), (1, 2), (62, 6), (1, 2)]);
+    put(rt, &mut w, 1, &[(0, 2), (1, 2)]);
+    w.finish()
+}
+
+#[test]
+fn entries_of_one_matrix_under_even_scales(rt: HostRuntime) {
+    let ramps = even_ramps(&rt, rt.alloc());
+    let rows = [
+        ("DC at 49", 0, 49, 0, 32),
+        ("AC at 49", 0, 49, 1, 96),
+        ("the least of intra AC at 63", 0, 63, 1, 8),
+        ("the least of inter AC at 63", 1, 63, 1, 16),
+        ("DC at 0", 0, 0, 0, 124),
+        ("the last at 0", 0, 0, 63, 1480),
+    ];
+    for (name, qti, qi, k, want) in rows {
+        assert!(rt; qti < 2 && qi < 64 && k < 64);
+        assert_eq!(rt; ramps.matrix(qti, 0, qi)[k], want, "{name}");
+    }
+}
+
+#[test]
+fn entries_between_flat_matrices(rt: HostRuntime) {
+    let bytes = flat_ramps(&rt, rt.alloc());
+    let Ok(ramps) = read_ramps(rt.alloc(), &mut BitReader::new(&bytes)) else {
+        panic!(&rt; "the quantisers are not read")
+    };
+    let rows = [
+        ("the first range, halfway", 0, 0, 5, 1, 80),
+        ("the first range, nearer to its start", 0, 0, 3, 1, 64),
+        ("where two ranges meet", 0, 0, 10, 1, 120),
+        ("past the greatest entry", 0, 0, 20, 1, 4096),
+        ("the last range, which falls", 0, 0, 61, 1, 252),
+        ("the least of intra DC", 0, 0, 5, 0, 16),
+        ("intra Cb is copied from intra Y", 0, 1, 3, 1, 64),
+        ("intra Cr at its start", 0, 2, 0, 63, 360),
+        ("intra Cr at its end", 0, 2, 63, 63, 40),
+        ("inter Y", 1, 0, 31, 7, 120),
+        ("inter Cb is copied from inter Y", 1, 1, 31, 7, 120),
+        ("inter Cr is copied from intra Cr", 1, 2, 0, 63, 360),
+        ("the least of inter DC", 1, 2, 0, 0, 32),
+    ];
+    for (name, qti, pli, qi, k, want) in rows {
+        assert!(rt; qti < 2 && pli < 3 && qi < 64 && k < 64);
+        assert_eq!(rt; ramps.matrix(qti, pli, qi)[k], want, "{name}");
+    }
+}
+
+#[test]
+fn copies_are_written_as_copies(rt: HostRuntime) {
+    let bytes = flat_ramps(&rt, rt.alloc());
+    let mut r = BitReader::new(&bytes);
+    let Ok(ramps) = read_ramps(rt.alloc(), &mut r) else {
+        panic!(&rt; "the quantisers are not read")
+    };
+    let mut w = BitWriter::new(rt.alloc());
+    assert_eq!(rt; write_ramps(&mut w, &ramps), Ok(()));
+    let written = w.finish();
+    assert!(rt; written.as_slice() == bytes.as_slice());
+}
+
+// The bytes of limits, which are read back.
+fn limits_packet(rt: &impl Abort, alloc: Global, of: [u8; 64]) -> Vec<u8> {
+    assert!(rt; of.iter().all(|limit| *limit < 128));
+    let limits = Limits { of };
+    let mut w = BitWriter::new(alloc);
+    assert_eq!(rt; write_limits(&mut w, &limits), Ok(()));
+    let bytes = w.finish();
+    assert_eq!(rt; read_limits(&mut BitReader::new(&bytes)), Ok(limits));
+    bytes
+}
+
+#[test]
+fn limits_take_the_least_width(rt: HostRuntime) {
+    let mut falling = [0; 64];
+    for qi in 0..64usize {
+        falling[qi] = (63 - qi as u8) / 3;
+    }
+    let none = limits_packet(&rt, rt.alloc(), [0; 64]);
+    assert!(rt; none.as_slice() == [0].as_slice());
+    let five_bits = limits_packet(&rt, rt.alloc(), falling);
+    assert_eq!(rt; five_bits.len(), 41);
+}
+
+#[test]
+fn the_first_fault_of_quantisers_is_answered(rt: HostRuntime) {
+    let rows: [(&str, u32, &[(u32, u32)], PacketFault); 6] = [
+        ("385 matrices", 384, &[], PacketFault::Matrices),
+        (
+            "384 matrices, and no more bits",
+            383,
+            &[],
+            PacketFault::Ended,
+        ),
+        (
+            "index 3 of 3 matrices",
+            2,
+            &[(3, 2)],
+            PacketFault::MatrixIndex,
+        ),
+        ("a range of 64 steps", 0, &[(63, 6)], PacketFault::Ramp),
+        (
+            "a range of 64 steps, and a bad index",
+            2,
+            &[(0, 2), (63, 6), (3, 2)],
+            PacketFault::MatrixIndex,
+        ),
+        (
+            "a second range that passes the end",
+            2,
+            &[(0, 2), (59, 6), (0, 2), (3, 2), (0, 2)],
+            PacketFault::Ramp,
+        ),
+    ];
+    for (name, less_one, fields, want) in rows {
+        let mut w = BitWriter::new(rt.alloc());
+        put(&rt, &mut w, 2, &[(0, 4), (0, 32), (0, 32)]);
+        put(&rt, &mut w, 1, &[(less_one, 9)]);
+        if less_one < 3 {
+            put(&rt, &mut w, 64 * (less_one + 1), &[(0, 8)]);
+        }
+        put(&rt, &mut w, 1, fields);
+        let bytes = w.finish();
+        let refusal = read_ramps(rt.alloc(), &mut BitReader::new(&bytes)).err();
+        assert_eq!(rt; refusal, Some(Refusal::Bad(want)), "{name}");
+    }
+}
