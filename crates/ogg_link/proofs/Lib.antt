@@ -1,0 +1,5 @@
+pub mod PartLemmas
+pub mod GranuleLemmas
+pub mod ProgressLemmas
+pub mod StepLemmas
+pub mod KeyLemmas

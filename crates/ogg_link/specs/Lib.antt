@@ -1,0 +1,7 @@
+pub mod Flags
+pub mod Faults
+pub mod Parts
+pub mod Progress
+pub mod Walk
+pub mod Granules
+pub mod Walked

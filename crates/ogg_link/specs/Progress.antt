@@ -1,0 +1,46 @@
+-- How far the packets of a track have come: headers, frames, and the last key frame (Theora I, A.2).
+use Rattle.std.specs.Prelude.{ℕ, min, ◌+◌, ◌-◌, ◌^◌, Bool, true, false, ◌&&◌, List, [], ◌∷◌, length, Option, Some, ◌==◌, nat_lt, if◌then◌else◌}
+use Rattle.ogg_page.specs.Packets.{Piece}
+use Rattle.ogg_page.specs.Granule.{is_key}
+use Rattle.ogg_link.specs.declared.state.Progress.{Progress}
+
+-- how many packets precede the frames
+abbrev pub headers : ℕ
+headers = 3
+
+-- one packet more; the count stays at the greatest number of 64 bits
+abbrev pub one_more : ℕ → ℕ
+one_more packets = min (packets + 1) (2 ^ 64 - 1)
+
+-- the last key frame when a packet has ended behind so many
+abbrev pub key_after : Bool → ℕ → Option ℕ → Option ℕ
+key_after key packets last_key = if key && nat_lt 2 packets then Some (packets - headers) else last_key
+
+-- the last key frame when these packets more have ended
+unfoldable pub last_key_among : ℕ → Option ℕ → List (List ℕ) → Option ℕ
+last_key_among packets last_key [] = last_key
+last_key_among packets last_key (packet ∷ more) = last_key_among (one_more packets) (key_after (is_key packet) packets last_key) more
+
+-- one piece more: the first piece of a packet shows whether it is a key frame
+abbrev pub after_piece : Progress → Piece → Progress
+after_piece known piece =
+    let key : Bool = if known.unfinished then known.key else is_key piece.bytes in
+    if piece.ends then record { packets = one_more known.packets; unfinished = false; key = false; last_key = key_after key known.packets known.last_key }
+    else record { packets = known.packets; unfinished = true; key = key; last_key = known.last_key }
+
+-- all these pieces more
+unfoldable pub after_pieces : Progress → List Piece → Progress
+after_pieces known [] = known
+after_pieces known (piece ∷ pieces) = after_pieces (after_piece known piece) pieces
+
+-- the lacing values are those of one whole packet
+unfoldable pub is_alone : List ℕ → Bool
+is_alone [] = false
+is_alone (n ∷ lacing) = if nat_lt n 255 then length lacing == 0 else is_alone lacing
+
+-- the last header ends with one of these lacing values and others follow; so many packets ended before
+unfoldable pub is_crowded : ℕ → List ℕ → Bool
+is_crowded packets [] = false
+is_crowded packets (n ∷ lacing) =
+    if nat_lt n 255 then (if packets == 2 then nat_lt 0 (length lacing) else is_crowded (one_more packets) lacing)
+    else is_crowded packets lacing

@@ -1,0 +1,23 @@
+//! From the pages of an Ogg file to the packets of its Theora track (RFC 3533, 4 to 6; Theora I, A.2).
+//!
+//! Above this crate a `Walk` is given the pages of a file in order. It answers the parts of packets that each page holds,
+//! which joined are the track's packets, or the first fault of the page in its place; `settle` looks at the page's
+//! granule position and `end` at what is missing. After a fault it answers that fault for good.
+#![tactic(auto)]
+
+mod fault;
+mod granules;
+mod page;
+mod part;
+mod progress;
+mod state;
+mod walk;
+
+pub use fault::{LinkFault, LinkRefusal};
+pub use granules::granule;
+pub use part::{Events, Part};
+pub use state::{Progress, State};
+pub use walk::Walk;
+
+#[cfg(test)]
+mod tests;
