@@ -1,0 +1,21 @@
+use Rattle.std.proofs.Common.{Option, subst, OnOk, Result, Ok, Err}
+use Rattle.thr_flags.specs.declared.writing.Run.{Run}
+use Rattle.thr_flags.specs.Writing.{Holds}
+use Rattle.thr_flags.proofs.WritingLemmas.{close_back, close_none}
+use Rattle.thr_flags.proofs.writing.close.Goals as goal
+
+-- what follows from a fact of an `Ok`
+on_ok : {T E : Type 0} {P Q : Type 0} (r : Result T E) → (P → Q) → OnOk r P → OnOk r Q
+on_ok (Ok x) f h = f h
+on_ok (Err e) f h = h
+
+pub returns-in-None-clause-reads_back : goal.returns-in-None-clause-reads_back
+returns-in-None-clause-reads_back c = λ old xs h.
+    close_none c.args.code old c.args.w.now xs (let P : Option Run → Type 0 = λ last. Holds c.args.code old c.args.w.now xs last in subst P c.in-None.is h)
+
+pub returns-in-Some-clause-reads_back : goal.returns-in-Some-clause-reads_back
+returns-in-Some-clause-reads_back c =
+    let run = rw c.in-Some.is at c.requires.run in
+    on_ok c.write_run.result (λ back. λ old xs h.
+    close_back c.args.code old c.args.w.now c.write_run.new.w xs c.in-Some.run'.value c.in-Some.run'.length
+    (let P : Option Run → Type 0 = λ last. Holds c.args.code old c.args.w.now xs last in subst P c.in-Some.is h) run.0 back) c.write_run.ensures.reads_back

@@ -1,0 +1,2 @@
+pub mod RunStrings
+pub mod Writing
