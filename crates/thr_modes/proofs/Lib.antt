@@ -1,0 +1,4 @@
+pub mod EachLemmas
+pub mod RankLemmas
+pub mod LumaLemmas
+pub mod WrittenModes

@@ -1,0 +1,4 @@
+pub mod InOrder
+pub mod LumaFlags
+pub mod Modes
+pub mod Written
