@@ -1,0 +1,4 @@
+pub mod Setup
+pub mod Tables
+pub mod ImportTrees
+pub mod Import
