@@ -1,0 +1,75 @@
+// How a command ends (own).
+ghost use Rattle.std.specs.Prelude.{◌≡◌};
+ghost use Rattle.cut_report.specs.Lines.{number_of};
+
+use ogg_link::LinkFault;
+use ogg_page::PageFault;
+use vid_base::PacketFault;
+
+/// The first fault of a source, and where it stands. Links count from 1; packets of a link's track from 0, its three
+/// headers first; bytes from the source's first.
+#[derive(Clone, Copy, Debug, PartialEq, Eq)]
+pub enum SourceWhat {
+    /// That packet of that link has the fault.
+    Packet {
+        link: u32,
+        packet: u32,
+        fault: PacketFault,
+    },
+    /// The page that begins at that byte has the fault.
+    Page {
+        at: u64,
+        fault: PageFault,
+    },
+    /// The fault shows at that byte, where a page begins or the source ends.
+    Link {
+        at: u64,
+        fault: LinkFault,
+    },
+}
+
+/// The end of a command. A status other than `Done` says why its work was not done.
+#[derive(Clone, Copy, Debug, PartialEq, Eq)]
+pub enum Status {
+    /// All of the work was done and every piece was written.
+    Done,
+    /// The words have no form of the command table.
+    Usage,
+    /// That input, counted from 1 in the order of the words, is the first that is not there.
+    NoFile { input: u32 },
+    /// Judging finds that fault in that source, the first bad one; sources count from 1 in the order of the words.
+    BadSource { source: u32, what: SourceWhat },
+    /// The desk failed to read.
+    ReadFault,
+    /// The desk failed to write.
+    WriteFault,
+    /// No memory was found.
+    NoMem,
+    /// That input, counted from 1 in the order of the words, is the first that has more bytes than its limit; `bytes` is
+    /// its size.
+    TooLong { input: u32, bytes: u64 },
+    /// The frame at which the slice begins is no key frame, so it cannot be copied.
+    InPointNotKey,
+    /// The list or the source has a form that is not yet cut.
+    NotYet,
+}
+
+impl Status {
+    /// The number with which the program ends.
+    pub fn number(&self) -> u8
+        ensures value { result ≡ number_of self.now }
+    {
+        match self {
+            Status::Done => 0,
+            Status::Usage => 2,
+            Status::NoFile { .. } => 3,
+            Status::BadSource { .. } => 4,
+            Status::ReadFault => 8,
+            Status::WriteFault => 9,
+            Status::NoMem => 10,
+            Status::TooLong { .. } => 14,
+            Status::InPointNotKey => 18,
+            Status::NotYet => 19,
+        }
+    }
+}

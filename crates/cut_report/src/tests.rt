@@ -1,0 +1,202 @@
+use crate::*;
+use ogg_link::LinkFault;
+use ogg_page::PageFault;
+use thr_ident::Ident;
+use vid_base::PacketFault;
+
+// Each status but that of a bad source, with the smallest and the largest numbers; the number with which the program
+// ends, and the line.
+const STATUSES: [(Status, u8, &str); 12] = [
+    (Status::Done, 0, ""),
+    (Status::Usage, 2, "fault 2 usage\n"),
+    (Status::NoFile { input: 0 }, 3, "fault 3 input 0 missing\n"),
+    (
+        Status::NoFile { input: u32::MAX },
+        3,
+        "fault 3 input 4294967295 missing\n",
+    ),
+    (Status::ReadFault, 8, "fault 8 read\n"),
+    (Status::WriteFault, 9, "fault 9 write\n"),
+    (Status::NoMem, 10, "fault 10 memory\n"),
+    (
+        Status::TooLong { input: 0, bytes: 0 },
+        14,
+        "fault 14 input 0 bytes 0\n",
+    ),
+    (
+        Status::TooLong {
+            input: 2,
+            bytes: 268_435_457,
+        },
+        14,
+        "fault 14 input 2 bytes 268435457\n",
+    ),
+    (
+        Status::TooLong {
+            input: u32::MAX,
+            bytes: u64::MAX,
+        },
+        14,
+        "fault 14 input 4294967295 bytes 18446744073709551615\n",
+    ),
+    (Status::InPointNotKey, 18, "fault 18 key\n"),
+    (Status::NotYet, 19, "fault 19 form\n"),
+];
+
+// Bad sources: which one, what is wrong with it, and the line.
+const BAD_SOURCES: [(u32, SourceWhat, &str); 6] = [
+    (
+        1,
+        SourceWhat::Packet {
+            link: 1,
+            packet: 17,
+            fault: PacketFault::Ended,
+        },
+        "fault 4 source 1 link 1 packet 17 Ended\n",
+    ),
+    (
+        u32::MAX,
+        SourceWhat::Packet {
+            link: 4_294_967_294,
+            packet: 4_294_967_293,
+            fault: PacketFault::CommentLength,
+        },
+        "fault 4 source 4294967295 link 4294967294 packet 4294967293 CommentLength\n",
+    ),
+    (
+        2,
+        SourceWhat::Page {
+            at: 0,
+            fault: PageFault::NotAPage,
+        },
+        "fault 4 source 2 byte 0 NotAPage\n",
+    ),
+    (
+        u32::MAX,
+        SourceWhat::Page {
+            at: u64::MAX,
+            fault: PageFault::PageVersion,
+        },
+        "fault 4 source 4294967295 byte 18446744073709551615 PageVersion\n",
+    ),
+    (
+        1,
+        SourceWhat::Link {
+            at: 2_619,
+            fault: LinkFault::BadGranule,
+        },
+        "fault 4 source 1 byte 2619 BadGranule\n",
+    ),
+    (
+        u32::MAX,
+        SourceWhat::Link {
+            at: u64::MAX,
+            fault: LinkFault::UnfinishedPacket,
+        },
+        "fault 4 source 4294967295 byte 18446744073709551615 UnfinishedPacket\n",
+    ),
+];
+
+// Frames of 16 by 16 samples in 4:2:0, 25 a second.
+const SMALLEST: Ident = Ident {
+    vrev: 1,
+    fmbw: 1,
+    fmbh: 1,
+    picw: 16,
+    pich: 16,
+    picx: 0,
+    picy: 0,
+    frn: 25,
+    frd: 1,
+    parn: 1,
+    pard: 1,
+    cs: 0,
+    nombr: 0,
+    qual: 30,
+    shift: 6,
+    pf: 0,
+};
+
+// Pictures at the right of a coded frame of the most macro blocks, in 4:2:2, just below 30 a second.
+const MOST: Ident = Ident {
+    vrev: 1,
+    fmbw: 512,
+    fmbh: 256,
+    picw: 8_000,
+    pich: 4_001,
+    picx: 192,
+    picy: 95,
+    frn: 30_000,
+    frd: 1_001,
+    parn: 0,
+    pard: 0,
+    cs: 0,
+    nombr: 0,
+    qual: 63,
+    shift: 31,
+    pf: 2,
+};
+
+// Pictures one row high in the widest coded frame, in 4:4:4, at the largest numbers of a rate.
+const WIDEST: Ident = Ident {
+    vrev: 1,
+    fmbw: 65_535,
+    fmbh: 2,
+    picw: 1_048_560,
+    pich: 1,
+    picx: 0,
+    picy: 31,
+    frn: 4_294_967_295,
+    frd: 4_294_967_294,
+    parn: 0,
+    pard: 0,
+    cs: 0,
+    nombr: 0,
+    qual: 0,
+    shift: 0,
+    pf: 3,
+};
+
+#[test]
+fn each_status_has_its_number_and_its_line(rt: HostRuntime) {
+    for (status, number, line) in STATUSES {
+        assert_eq!(rt; status.number(), number, "{line}");
+        assert!(rt; fault_line(&status).as_slice() == line.as_bytes(), "{line}");
+    }
+}
+
+#[test]
+fn a_bad_source_is_told_by_its_fault_and_where_it_stands(rt: HostRuntime) {
+    for (source, what, line) in BAD_SOURCES {
+        let status = Status::BadSource { source, what };
+        assert_eq!(rt; status.number(), 4, "{line}");
+        assert!(rt; fault_line(&status).as_slice() == line.as_bytes(), "{line}");
+    }
+}
+
+#[test]
+fn lines_of_links_stand_behind_what_was_there(rt: HostRuntime) {
+    let mut out = Vec::new(rt.alloc());
+    assert!(rt; out.extend_from_slice(b"before\n").is_ok());
+    assert_eq!(rt; link_line(&mut out, 1, &SMALLEST, 30, 3), Ok(()));
+    assert_eq!(rt; link_line(&mut out, 20, &MOST, 0, 0), Ok(()));
+    assert_eq!(rt;
+        link_line(
+            &mut out,
+            4_294_967_295,
+            &WIDEST,
+            4_294_967_294,
+            4_294_967_293
+        ),
+        Ok(())
+    );
+    assert_eq!(rt;
+        out.as_slice(),
+        b"before
+link 1 picture 16x16 coded 16x16 pixels 420 rate 25:1 frames 30 keys 3
+link 20 picture 8000x4001 coded 8192x4096 pixels 422 rate 30000:1001 frames 0 keys 0
+link 4294967295 picture 1048560x1 coded 1048560x32 pixels 444 rate 4294967295:4294967294 frames 4294967294 keys 4294967293
+"
+            .as_slice()
+    );
+}
