@@ -1,13 +1,17 @@
 -- The places of a superblock, plane by plane, and that superblocks follow one another. Geom and the layers above cite these.
-use Rattle.std.proofs.Common.{◌≡◌, ◌∙◌, ℕ, zero, suc, ◌+◌, ◌<◌, ◌≤◌, ◌==◌, if◌then◌else◌, List, [], ◌∷◌, ◌++◌, length, get_or, take, drop, map, Some, slice_get, refl, sym, ap, arith, length-append}
+use Rattle.std.proofs.Common.{◌≡◌, ◌∙◌, ℕ, zero, suc, ◌+◌, ◌<◌, ◌≤◌, ◌*◌, ◌==◌, if◌then◌else◌, List, [], ◌∷◌, ◌++◌, length, get_or, take, drop, map, Some, slice_get, refl, sym, ap, arith, length-append}
+use Rattle.std.specs.List.{All, range_with_len}
+use Rattle.std.proofs.lemmas.List.Elements.{All-append, All-map}
+use Rattle.std.proofs.lemmas.List.Sums.{count_by-le-length, length-filter}
 use Rattle.std.proofs.lemmas.List.{length-map, take_more, take_all, append-nil, take-append-drop}
 use Rattle.std.proofs.lemmas.Option.{slice_get_within, same_Some}
 use Rattle.vid_base.specs.declared.shape.Shape.{Shape}
 use Rattle.vid_geom.specs.declared.block.Block.{Block}
 use Rattle.vid_geom.specs.declared.grid.Grid.{Grid}
-use Rattle.vid_geom.specs.Squares.{squares, joined}
+use Rattle.vid_geom.specs.declared.grid.Walk.TheVariants.{Hilbert}
+use Rattle.vid_geom.specs.Squares.{inside, joined, moved, path_of, side_of, square, square_row, squares, squares_across, squares_up}
 use Rattle.vid_geom.specs.CodedOrder.{block_grid, plane_blocks, blocks_before, block_of, superblocks_of, superblocks, order_of, ranges_from, superblock_ranges}
-use Rattle.vid_geom.proofs.ListLemmas.{joined-append, slice_get-append_left, slice_get-append_right}
+use Rattle.vid_geom.proofs.ListLemmas.{All-flat_map, joined-append, slice_get-append_left, slice_get-append_right}
 use Rattle.vid_geom.proofs.NumberLemmas.{slice_get-ranges_from, length-ranges_from, ranges_from-append, ranges_from-map}
 use Rattle.vid_geom.proofs.OrderLemmas.{order_in_is, length-order_in}
 
@@ -28,6 +32,26 @@ length-superblocks s = omega (arith, length-append (superblocks_of s 0 ++ superb
 
 length-joined : (s : Shape) (pli : ℕ) → length (joined (superblocks_of s pli)) ≡ plane_blocks s pli
 length-joined s pli = ap length (order_in_is s pli) ∙ length-order_in s pli
+
+-- no superblock has more than 16 blocks
+square_small : (g : Grid) (col row : ℕ) → g.walk ≡ Hilbert → length (square g col row) ≤ 16
+unfolding square
+square_small g col row e = omega (arith, length-filter (inside g) (map (moved (side_of g.walk * col) (side_of g.walk * row)) (path_of g.walk)), count_by-le-length (inside g) (map (moved (side_of g.walk * col) (side_of g.walk * row)) (path_of g.walk)), length-map (path_of g.walk) (moved (side_of g.walk * col) (side_of g.walk * row)), ap (λ w. length (path_of w)) e)
+
+squares_small : (g : Grid) → g.walk ≡ Hilbert → All (λ cells. length cells ≤ 16) (squares g)
+unfolding squares square_row
+squares_small g e = All-flat_map (λ cells. length cells ≤ 16) (square_row g) (range_with_len 0 (squares_up g))
+    (λ k r h. All-map (λ cells. length cells ≤ 16) (λ col. square g col (get_or (range_with_len 0 (squares_up g)) k r)) (range_with_len 0 (squares_across g))
+    (λ j c i. square_small g (get_or (range_with_len 0 (squares_across g)) j c) (get_or (range_with_len 0 (squares_up g)) k r) e))
+
+superblocks_of_small : (s : Shape) (pli : ℕ) → All (λ blocks. length blocks ≤ 16) (superblocks_of s pli)
+unfolding superblocks_of
+superblocks_of_small s pli = All-map (λ blocks. length blocks ≤ 16) (map (block_of pli)) (squares (block_grid s pli))
+    (λ k c h. omega (arith, length-map (get_or (squares (block_grid s pli)) k c) (block_of pli), squares_small (block_grid s pli) refl k c h))
+
+pub superblocks_small : (s : Shape) → All (λ blocks. length blocks ≤ 16) (superblocks s)
+unfolding superblocks
+superblocks_small s = All-append (λ blocks. length blocks ≤ 16) (superblocks_of s 0 ++ superblocks_of s 1) (superblocks_of s 2) (All-append (λ blocks. length blocks ≤ 16) (superblocks_of s 0) (superblocks_of s 1) (superblocks_of_small s 0) (superblocks_of_small s 1)) (superblocks_of_small s 2)
 
 ranges_in : (s : Shape) (pli from : ℕ) → ranges_from from (superblocks_of s pli) ≡ ranges_from from (squares (block_grid s pli))
 unfolding superblocks_of

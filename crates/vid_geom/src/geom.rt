@@ -176,7 +176,8 @@ impl Geom {
 
     /// How many superblocks a frame has, in all planes.
     pub fn superblocks(&self) -> u32
-        ensures { result ≡ length (superblocks self.now) }
+        ensures value { result ≡ length (superblocks self.now) }
+        ensures size { All (λ blocks. length blocks ≤ 16) (superblocks self.now) }
     {
         self.luma.grid().squares() + 2 * self.chroma.grid().squares()
     }
