@@ -1,7 +1,7 @@
 -- What was written of a run string is read back. The writers cite these.
-use Rattle.std.proofs.Common.{arith, ◌≡◌, ◌∙◌, ◌+◌, ◌-◌, ◌<◌, ◌≤◌, ◌^◌, ℕ, zero, suc, Bool, List, [], ◌∷◌, ◌++◌, length, length-append, take, drop, Option, Some, None, Ok, sym, ap, refl, append_assoc, inl, inr, subst, IfSome}
+use Rattle.std.proofs.Common.{arith, ◌≡◌, ◌∙◌, ◌+◌, ◌-◌, ◌<◌, ◌≤◌, ◌^◌, ℕ, zero, suc, Bool, List, [], ◌∷◌, ◌++◌, length, length-append, take, drop, Option, Some, None, Ok, Err, OnOk, Result, sym, ap, refl, append_assoc, inl, inr, subst, IfSome}
 use Rattle.std.proofs.lemmas.Bool.{cases_lt}
-use Rattle.std.proofs.lemmas.List.{append-nil, length-replicate, replicate-append-replicate}
+use Rattle.std.proofs.lemmas.List.{append-nil, length-drop, length-replicate, length-take, replicate-append-replicate}
 use Rattle.std.proofs.Math.Seq.{take-append_seam, drop-append_seam}
 use Rattle.std.specs.Prelude.{replicate}
 use Rattle.vid_base.specs.Bits.{digits}
@@ -13,6 +13,11 @@ use Rattle.thr_flags.specs.declared.runs.RunCode.TheVariants.{Short}
 use Rattle.thr_flags.specs.RunStrings.{longest, HasRunsUpTo, next_value, one_bit, run_from, run_of, run_on, run_string, values}
 use Rattle.thr_flags.specs.Writing.{Fits, Grows, Holds, IsOpen, IsRun, ReadsBack}
 use Rattle.thr_flags.proofs.RunLemmas.{values_run, with_both, with_nothing}
+
+-- what follows from a fact of an `Ok`
+pub on_ok : {T E : Type 0} {P Q : Type 0} (r : Result T E) → (P → Q) → OnOk r P → OnOk r Q
+on_ok (Ok x) f h = f h
+on_ok (Err e) f h = h
 
 pub grows_on : (old mid new : List Bool) → Grows old mid → Grows mid new → Grows old new
 grows_on old mid new f g = (f.0 ++ g.0, g.1 ∙ ap (λ z. z ++ g.0) f.1 ∙ append_assoc old f.0 g.0)
@@ -149,3 +154,9 @@ fits_held code old now bits xs tail v None want e h r = tt
 fits_held code old now bits xs tail v (Some run) want e h r = λ short same.
     let P : RunCode → Type 0 = λ z. run.length ≤ longest z in
     fits_of 30 run.length bits xs h.done tail v (want short) e (h.all ∙ ap (λ b. h.done ++ replicate run.length b) same) (subst P short r.1)
+
+-- so few values have no run that is too long
+pub few_rows : (most : ℕ) (values : List Bool) → length values ≤ most → HasRunsUpTo most values
+few_rows most values few at v e =
+    let long : length (replicate (most + 1) v) ≡ most + 1 = length-replicate (most + 1) v in
+    absurd (omega (arith, ap length e, long, length-take (most + 1) (drop at values), length-drop at values))

@@ -1,2 +1,4 @@
 pub mod RunStrings
 pub mod Writing
+pub mod Flags
+pub mod WrittenFlags

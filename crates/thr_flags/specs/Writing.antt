@@ -17,6 +17,10 @@ pub record ReadsBack {A : Type 0} (read : List Bool → Result (A × List Bool) 
   pub added : new ≡ old ++ more
   pub reads : (rest : List Bool) → read (more ++ rest) ≡ Ok (value, rest)
 
+-- a run string of these values was added
+abbrev pub AddsString : RunCode → List Bool → List Bool → List Bool → Type 0
+AddsString code values old new = ReadsBack (run_string code (length values)) values old new
+
 -- runs that were written end with one of v that is still open, of so many values: whatever follows, reading goes on with its length
 pub record IsOpen (code : RunCode) (old now xs : List Bool) (v : Bool) (run : ℕ) : Type 0 where
   pub more : List Bool

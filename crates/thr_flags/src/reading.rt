@@ -7,8 +7,8 @@ ghost use Rattle.thr_flags.specs.RunStrings.{long_string, run_string, short_stri
 use crate::runs::RunCode;
 use vid_base::{BitReader, PacketFault, Refusal};
 
-// Sets a run of values.
-fn fill_run(into: &mut [bool], at: usize, run: usize, value: bool)
+/// Sets a run of values.
+pub(crate) fn fill_run(into: &mut [bool], at: usize, run: usize, value: bool)
     requires { at + run ≤ length into.old }
     ensures front { take (at + run) into.new ≡ take at into.old ++ replicate run value }
     ensures len { length into.new ≡ length into.old }
@@ -75,14 +75,14 @@ pub fn read_short_in(r: &mut BitReader, into: &mut [bool]) -> Result<(), PacketF
     read_string(r, RunCode::Short, into)
 }
 
-// Makes the list as many values long.
-fn size(into: &mut Vec<bool>, n: u32) -> Result<(), Refusal>
+/// Makes the list as many values long.
+pub(crate) fn size(into: &mut Vec<bool>, n: usize) -> Result<(), Refusal>
     ensures sized { OnOk result (length into.new.items ≡ n) }
     ensures refused { OnErr result (into.new.items ≡ []) }
     ensures memory { OnErr result (result ≡ Err NoMem) }
 {
     into.clear();
-    into.resize(n as usize, false)?;
+    into.resize(n, false)?;
     Ok(())
 }
 
@@ -97,7 +97,7 @@ fn read_string_into(
     ensures refused { OnErr result (into.new.items ≡ []) }
     ensures memory { result ≡ Err NoMem → r.new ≡ r.old }
 {
-    size(into, n)?;
+    size(into, n as usize)?;
     if let Err(fault) = read_string(r, code, into) {
         into.clear();
         return Err(Refusal::Bad(fault));

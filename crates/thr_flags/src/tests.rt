@@ -1,6 +1,11 @@
+ghost use Rattle.std.specs.Prelude.{◌≡◌, ◌≤◌, IfOk, length};
+
 use crate::*;
+use std::alloc::{AllocError, Global};
+use std::process::Abort;
 use std::test::Fail;
-use vid_base::{BitReader, BitWriter, PacketFault, Refusal};
+use vid_base::{BitReader, BitWriter, NoMem, PacketFault, Refusal, Shape};
+use vid_geom::Geom;
 
 /// The values of a string: the first, and the lengths of its runs. A run of 0 stands where the next has the same value.
 type Runs = (bool, &'static [usize]);
@@ -137,6 +142,135 @@ fn the_bits_of_a_run_end_before_it_is_too_long(rt: HostRuntime) -> Result<(), Fa
             Err(fault),
             "{n} values"
         );
+    }
+    Ok(())
+}
+
+/// Values of short strings, and their bytes.
+const WRITTEN_SHORT: [(&[bool], &[u8]); 4] = [
+    (&[false, false, false], &[0x40]),
+    (&[true, true, false], &[0xa0]),
+    (&[true; 30], &[0xff, 0xc0]),
+    (&[], &[]),
+];
+
+// So few values have no run that is too long.
+fn write_few(w: &mut BitWriter, values: &[bool]) -> Result<(), NoMem>
+    requires { length values.now ≤ 30 }
+{
+    write_short(w, values)
+}
+
+#[test]
+fn a_short_string_is_written_with_the_bits_of_its_runs(rt: HostRuntime) -> Result<(), Fail> {
+    for (values, bytes) in WRITTEN_SHORT {
+        if values.len() <= 30 {
+            let mut w = BitWriter::new(rt.alloc());
+            assert_eq!(rt; write_few(&mut w, values), Ok(()));
+            assert!(rt; w.finish().as_slice() == bytes, "{} values", values.len());
+        }
+    }
+    Ok(())
+}
+
+// The layout of a frame, from its columns and rows of macro blocks and its pixel format.
+fn layout(rt: &impl Abort, alloc: Global, columns: u16, rows: u16, format: u8) -> Geom {
+    let shape = Shape::new(columns, rows, format).expect(rt, "no shape");
+    Geom::new(alloc, shape).expect(rt, "no memory")
+}
+
+// The flags of a frame or the fault, which both calls have to answer alike.
+fn read(
+    rt: &impl Abort,
+    alloc: Global,
+    geom: &Geom,
+    bytes: &[u8],
+) -> Result<Result<Vec<bool>, PacketFault>, AllocError> {
+    let blocks = geom.blocks() as usize;
+    let mut flags = Vec::new(alloc);
+    let answer = read_flags(&mut BitReader::new(bytes), geom, &mut flags);
+    let mut again = vec![in alloc; false; blocks]?;
+    let mut work = vec![in alloc; true; 2 * geom.superblocks() as usize + blocks]?;
+    match read_flags_in(&mut BitReader::new(bytes), geom, &mut again, &mut work) {
+        Ok(()) => {
+            assert_eq!(rt; answer, Ok(()));
+            assert!(rt; again.as_slice() == flags.as_slice());
+            Ok(Ok(flags))
+        }
+        Err(fault) => {
+            assert_eq!(rt; answer, Err(Refusal::Bad(fault)));
+            Ok(Err(fault))
+        }
+    }
+}
+
+/// The flags of a macro block in 4:2:0: its luma is partly coded, its Cb coded and its Cr not.
+const FLAGS: [bool; 6] = [true, false, true, true, true, false];
+
+#[test]
+fn the_flags_of_a_macro_block_have_fifteen_bits(rt: HostRuntime) -> Result<(), Fail> {
+    let geom = layout(&rt, rt.alloc(), 1, 1, 0);
+    assert_eq!(rt; geom.blocks(), 6);
+    let mut w = BitWriter::new(rt.alloc());
+    assert_eq!(rt; write_flags(&mut w, &geom, &FLAGS), Ok(()));
+    let bytes = w.finish();
+    assert!(rt; bytes.as_slice() == [0xa4, 0x82].as_slice());
+    let mut r = BitReader::new(&bytes);
+    let mut flags = Vec::new(rt.alloc());
+    assert_eq!(rt; read_flags(&mut r, &geom, &mut flags), Ok(()));
+    assert!(rt; flags.as_slice() == FLAGS.as_slice());
+    assert_eq!(rt; left(&mut r), 1);
+    Ok(())
+}
+
+// A flag for each block; of 65,536 so many differ from the one before.
+fn drawn_flags(alloc: Global, blocks: u32, changes: u32) -> Result<Vec<bool>, AllocError>
+    ensures { IfOk result (λ flags. length flags.items ≡ blocks) }
+{
+    let mut flags = vec![in alloc; false; blocks as usize]?;
+    let mut state = changes;
+    let mut value = true;
+    for at in 0..flags.len() {
+        state = state.wrapping_mul(1_664_525).wrapping_add(1_013_904_223);
+        value = value != ((state >> 16) < changes);
+        flags[at] = value;
+    }
+    Ok(flags)
+}
+
+#[test]
+fn flags_of_twelve_shapes_are_written_and_read_and_end_where_their_bytes_are_cut(
+    rt: HostRuntime,
+) -> Result<(), Fail> {
+    for (columns, rows) in [(1, 1), (2, 3), (4, 1), (5, 3)] {
+        for format in [0, 2, 3] {
+            let geom = layout(&rt, rt.alloc(), columns, rows, format);
+            for changes in [65_536, 30_000, 10_000, 2_000, 0] {
+                let flags = drawn_flags(rt.alloc(), geom.blocks(), changes)?;
+                let mut w = BitWriter::new(rt.alloc());
+                assert_eq!(rt; write_flags(&mut w, &geom, &flags), Ok(()));
+                let bytes = w.finish();
+                let back = read(&rt, rt.alloc(), &geom, &bytes)?;
+                assert!(rt; back == Ok(flags), "{columns} by {rows} of format {format}");
+                for n in 0..bytes.len() {
+                    let cut = read(&rt, rt.alloc(), &geom, &bytes[..n])?;
+                    assert!(rt; cut == Err(PacketFault::Ended), "{n} bytes");
+                }
+            }
+        }
+    }
+    Ok(())
+}
+
+/// Bytes of which one of the three strings of a macro block in 4:2:0 has a run that is too long.
+const TOO_LONG: [&[u8]; 3] = [&[0xe0], &[0x5e, 0x00], &[0xa4, 0xe0]];
+
+#[test]
+fn a_run_may_not_pass_the_end_of_any_of_the_three_strings(rt: HostRuntime) -> Result<(), Fail> {
+    let geom = layout(&rt, rt.alloc(), 1, 1, 0);
+    for bytes in TOO_LONG {
+        let answer = read(&rt, rt.alloc(), &geom, bytes)?;
+        assert!(rt; answer == Err(PacketFault::RunTooLong));
     }
     Ok(())
 }

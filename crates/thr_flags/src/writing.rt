@@ -1,7 +1,7 @@
 // Run strings are written (Theora I, 7.2).
 ghost use Rattle.std.specs.Prelude.{◌≡◌, ◌≤◌, ◌<◌, ◌++◌, ◌∷◌, [], Bool, List, not, false, length, IfOk, IfSome, OnErr, OnOk, Some};
-ghost use Rattle.thr_flags.specs.RunStrings.{HasRunsUpTo, is_renewed, long_string, run_string, short_string};
-ghost use Rattle.thr_flags.specs.Writing.{Fits, Grows, Holds, IsRun, ReadsBack};
+ghost use Rattle.thr_flags.specs.RunStrings.{HasRunsUpTo, is_renewed, long_string, short_string};
+ghost use Rattle.thr_flags.specs.Writing.{AddsString, Fits, Grows, Holds, IsRun, ReadsBack};
 ghost use Rattle.thr_flags.specs.declared.runs.RunCode.{RunCode};
 ghost use Rattle.thr_flags.specs.declared.runs.RunCode.TheVariants.{Short};
 
@@ -79,7 +79,7 @@ pub(crate) fn push(
 /// The end of a string.
 pub(crate) fn close(w: &mut BitWriter, code: RunCode, last: Option<Run>) -> Result<(), NoMem>
     requires run { IfSome last (IsRun code) }
-    ensures reads_back { OnOk result ((old xs : List Bool) → Holds code old w.old xs last → ReadsBack (run_string code (length xs)) xs old w.new) }
+    ensures reads_back { OnOk result ((old xs : List Bool) → Holds code old w.old xs last → AddsString code xs old w.new) }
     ensures memory { OnErr result (Grows w.old w.new) }
 {
     match last {
@@ -91,7 +91,7 @@ pub(crate) fn close(w: &mut BitWriter, code: RunCode, last: Option<Run>) -> Resu
 // Writes a string of these values.
 fn write_string(w: &mut BitWriter, code: RunCode, bits: &[bool]) -> Result<(), NoMem>
     requires { code ≡ Short → HasRunsUpTo 30 bits.now }
-    ensures reads_back { OnOk result (ReadsBack (run_string code (length bits.now)) bits.now w.old w.new) }
+    ensures reads_back { OnOk result (AddsString code bits.now w.old w.new) }
     ensures memory { OnErr result (Grows w.old w.new) }
 {
     let mut last = None;

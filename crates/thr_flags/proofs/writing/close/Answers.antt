@@ -1,13 +1,8 @@
-use Rattle.std.proofs.Common.{Option, subst, OnOk, Result, Ok, Err}
+use Rattle.std.proofs.Common.{Option, subst}
 use Rattle.thr_flags.specs.declared.writing.Run.{Run}
 use Rattle.thr_flags.specs.Writing.{Holds}
-use Rattle.thr_flags.proofs.WritingLemmas.{close_back, close_none}
+use Rattle.thr_flags.proofs.WritingLemmas.{close_back, close_none, on_ok}
 use Rattle.thr_flags.proofs.writing.close.Goals as goal
-
--- what follows from a fact of an `Ok`
-on_ok : {T E : Type 0} {P Q : Type 0} (r : Result T E) → (P → Q) → OnOk r P → OnOk r Q
-on_ok (Ok x) f h = f h
-on_ok (Err e) f h = h
 
 pub returns-in-None-clause-reads_back : goal.returns-in-None-clause-reads_back
 returns-in-None-clause-reads_back c = λ old xs h.
