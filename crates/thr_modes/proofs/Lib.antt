@@ -1,4 +1,16 @@
+pub mod OkLemmas
 pub mod EachLemmas
 pub mod RankLemmas
 pub mod LumaLemmas
 pub mod WrittenModes
+pub mod MeanLemmas
+pub mod LastLemmas
+pub mod PutLemmas
+pub mod AreaLemmas
+pub mod MotionSizes
+pub mod BlockLemmas
+pub mod FoldLemmas
+pub mod VectorCodes
+pub mod VectorsBack
+pub mod FrameBack
+pub mod SmallModes

@@ -1,10 +1,10 @@
 -- The bits that modes are written as, and that they are read as these modes. The writer of modes cites these.
-use Rattle.std.proofs.Common.{◌≡◌, ◌∙◌, ℕ, zero, suc, ◌+◌, ◌^◌, ◌<◌, ◌≤◌, Bool, true, false, cond, List, [], ◌∷◌, ◌++◌, length, drop, get_or, All, Result, Ok, Some, slice_get, refl, ap, sym, arith, append_assoc}
+use Rattle.std.proofs.Common.{◌≡◌, ◌∙◌, ℕ, zero, suc, ◌+◌, ◌<◌, ◌≤◌, Bool, true, false, cond, List, [], ◌∷◌, ◌++◌, length, drop, get_or, All, Ok, Some, slice_get, refl, ap, sym, arith, append_assoc}
 use Rattle.std.proofs.lemmas.List.{append-nil, drop_all}
-use Rattle.std.proofs.lemmas.Option.{slice_get_within, slice_get-get_or, same_Some}
+use Rattle.std.proofs.lemmas.Option.{same_Some}
 use Rattle.std.proofs.Math.Seq.{drop-cons}
 use Rattle.vid_base.specs.Bits.{digits}
-use Rattle.vid_base.specs.Reading.{field, ◌>>=◌, or_ended}
+use Rattle.vid_base.specs.Reading.{field}
 use Rattle.vid_base.specs.declared.shape.Shape.{Shape}
 use Rattle.vid_base.proofs.NumberLemmas.{take-digits}
 use Rattle.thr_modes.specs.declared.alphabet.ModeCoding.TheVariants.{Plain}

@@ -10,3 +10,7 @@ each item (x ∷ xs) bits = item x bits >>= (λ first. each item xs first.1 >>= 
 -- behind the old bits stand bits that are read as the value, whatever follows them
 abbrev pub Adds : {Y F : Type 0} → (List Bool → Result (Y × List Bool) F) → Y → List Bool → List Bool → Type 0
 Adds read value old new = (bits : List Bool) × (new ≡ old ++ bits) × ((rest : List Bool) → read (bits ++ rest) ≡ Ok (value, rest))
+
+-- some bits are read as the value
+abbrev pub CanBeRead : {Y F : Type 0} → (List Bool → Result (Y × List Bool) F) → Y → Type 0
+CanBeRead read value = (bits : List Bool) × (rest : List Bool) × (read bits ≡ Ok (value, rest))

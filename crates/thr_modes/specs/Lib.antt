@@ -1,4 +1,9 @@
 pub mod InOrder
 pub mod LumaFlags
 pub mod Modes
+pub mod Motion
+pub mod Placing
+pub mod Vectors
+pub mod Views
 pub mod Written
+pub mod WrittenVectors

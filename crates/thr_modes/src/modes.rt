@@ -66,11 +66,14 @@ pub fn read_modes_in(
 ) -> Result<(), PacketFault>
     requires flags { length flags.now ≡ length (order_of geom.now) }
     requires modes { length modes.old ≡ length (macro_blocks geom.now) }
-    ensures { Gives (λ _. modes.new) result r.new.left (modes_of geom.now flags.now r.old.left) }
+    ensures value { Gives (λ _. modes.new) result r.new.left (modes_of geom.now flags.now r.old.left) }
+    ensures small { OnOk result (All (λ mode. mode < 8) modes.new) }
+    ensures uncoded { OnOk result (ZeroWhereUncoded (macro_flags geom.now flags.now) modes.new) }
 {
     let scheme = r.take(3)?;
     let coding = read_coding(r, scheme)?;
-    read_macro_modes(r, &coding, geom, flags, modes)
+    read_macro_modes(r, &coding, geom, flags, modes)?;
+    Ok(())
 }
 
 /// Reads the mode of each macro block in coded order, 0 to 7. `Ended`, or `BadAlphabet` where two modes have one rank.
@@ -83,6 +86,8 @@ pub fn read_modes(
 ) -> Result<(), Refusal>
     requires { length flags.now ≡ length (order_of geom.now) }
     ensures value { GivesOrNoMem (λ _. modes.new.items) result r.new.left (modes_of geom.now flags.now r.old.left) }
+    ensures small { OnOk result (All (λ mode. mode < 8) modes.new.items) }
+    ensures uncoded { OnOk result (ZeroWhereUncoded (macro_flags geom.now flags.now) modes.new.items) }
     ensures emptied { OnErr result (modes.new.items ≡ []) }
 {
     modes.clear();

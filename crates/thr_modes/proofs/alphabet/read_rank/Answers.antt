@@ -1,4 +1,4 @@
-use Rattle.std.proofs.Common.{◌∙◌, sym, arith}
+use Rattle.std.proofs.Common.{◌∙◌, sym}
 use Rattle.thr_modes.proofs.RankLemmas.{rank_zero}
 use Rattle.thr_modes.proofs.alphabet.read_rank.Goals as goal
 

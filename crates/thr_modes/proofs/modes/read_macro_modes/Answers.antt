@@ -1,4 +1,4 @@
-use Rattle.std.proofs.Common.{◌∙◌, take, sym, arith}
+use Rattle.std.proofs.Common.{◌∙◌, take, sym}
 use Rattle.std.proofs.lemmas.Result.{err_from_is_err_and}
 use Rattle.thr_modes.specs.LumaFlags.{macro_flags}
 use Rattle.thr_modes.specs.Modes.{macro_mode}

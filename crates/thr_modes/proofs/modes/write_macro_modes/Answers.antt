@@ -1,6 +1,6 @@
-use Rattle.std.proofs.Common.{◌++◌, arith}
+use Rattle.std.proofs.Common.{arith}
 use Rattle.thr_modes.specs.LumaFlags.{macro_flags}
-use Rattle.thr_modes.specs.Written.{mode_code, modes_code}
+use Rattle.thr_modes.specs.Written.{modes_code}
 use Rattle.thr_modes.proofs.WrittenModes.{written_more, memory_more}
 use Rattle.thr_modes.proofs.modes.write_macro_modes.Goals as goal
 

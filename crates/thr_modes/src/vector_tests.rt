@@ -1,0 +1,272 @@
+use crate::*;
+use std::alloc::{AllocError, Global};
+use std::process::Abort;
+use std::test::Fail;
+use vid_base::{BitReader, BitWriter, NoMem, PacketFault, Refusal, Shape, Vector};
+use vid_geom::Geom;
+
+/// One macro block in mode 2: bits, how many of them are left, and the components of its vector.
+const CODED: [(&[u8], usize, [i8; 2]); 14] = [
+    (&[0x14], 1, [1, -1]),
+    (&[0x06], 0, [0, 2]),
+    (&[0x30], 0, [2, 0]),
+    (&[0x38], 0, [-2, 0]),
+    (&[0x40], 0, [3, 0]),
+    (&[0x48], 0, [-3, 0]),
+    (&[0x50, 0x00], 6, [4, 0]),
+    (&[0x5e, 0x00], 6, [-7, 0]),
+    (&[0x60, 0x00], 5, [8, 0]),
+    (&[0x6f, 0x00], 5, [-15, 0]),
+    (&[0x70, 0x00], 4, [16, 0]),
+    (&[0x7f, 0x80], 4, [-31, 0]),
+    (&[0x8a, 0x30], 3, [-2, 3]),
+    (&[0x82, 0x08], 3, [0, 0]),
+];
+
+/// Frames of four macro blocks in a row: their modes, the components that are read, and those of the vectors that the
+/// macro blocks have.
+const REMEMBERED: [([u8; 4], &[i8], [i8; 8]); 7] = [
+    ([2, 2, 4, 3], &[1, 2, -3, 4], [1, 2, -3, 4, 1, 2, 1, 2]),
+    ([2, 2, 4, 4], &[1, 2, -3, 4], [1, 2, -3, 4, 1, 2, -3, 4]),
+    ([2, 2, 3, 4], &[1, 2, -3, 4], [1, 2, -3, 4, -3, 4, 1, 2]),
+    ([2, 6, 3, 4], &[1, 2, 5, -6], [1, 2, 5, -6, 1, 2, 0, 0]),
+    ([3, 4, 2, 4], &[1, 2], [0, 0, 0, 0, 1, 2, 0, 0]),
+    ([0, 1, 5, 2], &[1, 2], [0, 0, 0, 0, 0, 0, 1, 2]),
+    ([2, 0, 2, 4], &[1, 2, -3, 4], [1, 2, 0, 0, -3, 4, 1, 2]),
+];
+
+/// Frames of two macro blocks in modes 7 and 3: the pixel format, whether the upper right luma block of the first is
+/// coded, the components that are read, and those of the vectors of Y, Cb and Cr in coded order.
+const OWN: [(u8, bool, &[i8], &[i8]); 4] = [
+    (
+        0,
+        true,
+        &[1, -1, 2, -2, 0, 3, -1, -2],
+        &[
+            1, -1, 2, -2, -1, -2, 0, 3, -1, -2, -1, -2, -1, -2, -1, -2, 1, -1, -1, -2, 1, -1, -1,
+            -2,
+        ],
+    ),
+    (
+        0,
+        false,
+        &[1, -1, 2, -2, 0, 3],
+        &[
+            1, -1, 2, -2, 0, 0, 0, 3, 0, 3, 0, 3, 0, 3, 0, 3, 1, 0, 0, 3, 1, 0, 0, 3,
+        ],
+    ),
+    (
+        2,
+        true,
+        &[1, -1, 2, -2, 0, 3, -1, -2],
+        &[
+            1, -1, 2, -2, -1, -2, 0, 3, -1, -2, -1, -2, -1, -2, -1, -2, 2, -2, -1, -2, -1, -2, -1,
+            1, 2, -2, -1, -2, -1, -2, -1, 1,
+        ],
+    ),
+    (
+        3,
+        true,
+        &[1, -1, 2, -2, 0, 3, -1, -2],
+        &[
+            1, -1, 2, -2, -1, -2, 0, 3, -1, -2, -1, -2, -1, -2, -1, -2, 1, -1, 2, -2, -1, -2, 0, 3,
+            -1, -2, -1, -2, -1, -2, -1, -2, 1, -1, 2, -2, -1, -2, 0, 3, -1, -2, -1, -2, -1, -2, -1,
+            -2,
+        ],
+    ),
+];
+
+// The layout of a frame of so many macro blocks across and upwards in a pixel format.
+fn frame(rt: &impl Abort, alloc: Global, across: u16, upwards: u16, pf: u8) -> Geom {
+    let shape = Shape::new(across, upwards, pf).expect(rt, "no shape");
+    Geom::new(alloc, shape).expect(rt, "no memory")
+}
+
+// Components under MVMODE 1: 5 bits and a sign each.
+fn packet(alloc: Global, components: &[i8]) -> Result<Vec<u8>, NoMem> {
+    let mut w = BitWriter::new(alloc);
+    w.put(1, 1)?;
+    for component in components {
+        w.put(u32::from(component.unsigned_abs() % 32), 5)?;
+        w.put(u32::from(*component < 0), 1)?;
+    }
+    Ok(w.finish())
+}
+
+// The components of vectors.
+fn components(alloc: Global, vectors: &[Vector]) -> Result<Vec<i8>, AllocError> {
+    let mut components = Vec::new(alloc);
+    for vector in vectors {
+        components.push(vector.x)?;
+        components.push(vector.y)?;
+    }
+    Ok(components)
+}
+
+// What both readers give, which is to be the same.
+fn read(
+    rt: &impl Abort,
+    alloc: Global,
+    r: &mut BitReader,
+    again: &mut BitReader,
+    geom: &Geom,
+    flags: &[bool],
+    modes: &[u8],
+) -> Result<Vec<i8>, Fail> {
+    assert!(rt; flags.len() == geom.blocks() as usize);
+    assert!(rt; modes.len() == geom.macro_blocks() as usize);
+    let mut vectors = Vec::new(alloc);
+    assert_eq!(rt; read_vectors(r, geom, flags, modes, &mut vectors), Ok(()));
+    let mut lent = vec![in alloc; Vector { x: 9, y: 9 }; flags.len()]?;
+    assert_eq!(rt;
+        read_vectors_in(again, geom, flags, modes, &mut lent),
+        Ok(())
+    );
+    assert!(rt; lent.as_slice() == vectors.as_slice());
+    Ok(components(alloc, &vectors)?)
+}
+
+// How many bits are left, of at most 8.
+fn left(r: &mut BitReader) -> usize {
+    let mut count = 0usize;
+    for _ in 0..8 {
+        if r.bit().is_ok() {
+            count = count.saturating_add(1);
+        }
+    }
+    count
+}
+
+#[test]
+fn a_vector_is_read_under_both_codings(rt: HostRuntime) -> Result<(), Fail> {
+    let geom = frame(&rt, rt.alloc(), 1, 1, 0);
+    let flags = vec![in rt.alloc(); true; geom.blocks() as usize]?;
+    for (bytes, rest, [x, y]) in CODED {
+        let mut r = BitReader::new(bytes);
+        let mut again = BitReader::new(bytes);
+        let vectors = read(&rt, rt.alloc(), &mut r, &mut again, &geom, &flags, &[2])?;
+        let six = [x, y, x, y, x, y, x, y, x, y, x, y];
+        assert_eq!(rt; vectors.as_slice(), six.as_slice());
+        assert_eq!(rt; left(&mut r), rest, "({x}, {y})");
+        assert_eq!(rt; left(&mut again), rest, "({x}, {y})");
+    }
+    Ok(())
+}
+
+#[test]
+fn vectors_are_remembered_from_macro_block_to_macro_block(rt: HostRuntime) -> Result<(), Fail> {
+    let geom = frame(&rt, rt.alloc(), 4, 1, 0);
+    let flags = vec![in rt.alloc(); true; geom.blocks() as usize]?;
+    for (modes, coded, expected) in REMEMBERED {
+        let bytes = packet(rt.alloc(), coded)?;
+        let mut r = BitReader::new(&bytes);
+        let mut again = BitReader::new(&bytes);
+        let vectors = read(&rt, rt.alloc(), &mut r, &mut again, &geom, &flags, &modes)?;
+        assert_eq!(rt; vectors.len(), 48);
+        let of_cb = &vectors.as_slice()[32..40];
+        assert_eq!(rt; of_cb, expected.as_slice(), "modes {modes:?}");
+    }
+    Ok(())
+}
+
+#[test]
+fn each_luma_block_has_its_own_vector_and_chroma_has_means(rt: HostRuntime) -> Result<(), Fail> {
+    for (pf, last, coded, expected) in OWN {
+        let geom = frame(&rt, rt.alloc(), 2, 1, pf);
+        let mut flags = vec![in rt.alloc(); true; geom.blocks() as usize]?;
+        assert!(rt; flags.len() > 2);
+        flags[2] = last;
+        let bytes = packet(rt.alloc(), coded)?;
+        let mut r = BitReader::new(&bytes);
+        let mut again = BitReader::new(&bytes);
+        let vectors = read(&rt, rt.alloc(), &mut r, &mut again, &geom, &flags, &[7, 3])?;
+        assert_eq!(rt; vectors.as_slice(), expected, "format {pf}");
+    }
+    Ok(())
+}
+
+#[test]
+fn vectors_end_early_at_each_cut(rt: HostRuntime) -> Result<(), Fail> {
+    let geom = frame(&rt, rt.alloc(), 1, 1, 0);
+    let flags = vec![in rt.alloc(); true; geom.blocks() as usize]?;
+    let modes = vec![in rt.alloc(); 7u8; geom.macro_blocks() as usize]?;
+    let bytes = packet(rt.alloc(), &[1, 2, 3, 4, 5, 6, 7, 8])?;
+    assert_eq!(rt; bytes.len(), 7);
+    for cut in 0..7usize {
+        let rest = &bytes.as_slice()[..cut];
+        let mut vectors = Vec::new(rt.alloc());
+        let refused = read_vectors(
+            &mut BitReader::new(rest),
+            &geom,
+            &flags,
+            &modes,
+            &mut vectors,
+        );
+        assert_eq!(rt;
+            refused,
+            Err(Refusal::Bad(PacketFault::Ended)),
+            "{cut} bytes"
+        );
+        assert!(rt; vectors.is_empty());
+    }
+    Ok(())
+}
+
+// The next of a row of numbers below 65,536 that look random.
+fn next(seed: &mut u32) -> u32 {
+    *seed = seed.wrapping_mul(1_664_525).wrapping_add(1_013_904_223);
+    *seed >> 16
+}
+
+// Vectors of any bits, for any flags and modes, and those that are read when they were written.
+fn read_and_written(
+    rt: &impl Abort,
+    alloc: Global,
+    geom: &Geom,
+    seed: &mut u32,
+) -> Result<(Vec<i8>, Vec<i8>), Fail> {
+    let mut flags = vec![in alloc; false; geom.blocks() as usize]?;
+    for flag in flags.iter_mut() {
+        *flag = next(seed) % 4 != 0;
+    }
+    let mut modes = vec![in alloc; 0u8; geom.macro_blocks() as usize]?;
+    for mode in modes.iter_mut() {
+        *mode = (next(seed) % 8) as u8;
+    }
+    let mut bytes = vec![in alloc; 0u8; 1 + 2 * flags.len()]?;
+    for byte in bytes.iter_mut() {
+        *byte = (next(seed) % 256) as u8;
+    }
+    let mut vectors = Vec::new(alloc);
+    let mut r = BitReader::new(&bytes);
+    assert_eq!(rt;
+        read_vectors(&mut r, geom, &flags, &modes, &mut vectors),
+        Ok(())
+    );
+    assert!(rt; vectors.len() == geom.blocks() as usize);
+    let mut w = BitWriter::new(alloc);
+    assert_eq!(rt;
+        write_vectors(&mut w, geom, &flags, &modes, &vectors),
+        Ok(())
+    );
+    let written = w.finish();
+    let mut r = BitReader::new(&written);
+    let mut again = BitReader::new(&written);
+    let back = read(rt, alloc, &mut r, &mut again, geom, &flags, &modes)?;
+    Ok((components(alloc, &vectors)?, back))
+}
+
+#[test]
+fn vectors_of_any_bits_are_read_again_when_they_were_written(rt: HostRuntime) -> Result<(), Fail> {
+    let mut seed = 7;
+    for (across, upwards) in [(1, 1), (2, 1), (1, 2), (3, 3)] {
+        for pf in [0, 2, 3] {
+            let geom = frame(&rt, rt.alloc(), across, upwards, pf);
+            for _ in 0..16 {
+                let (vectors, back) = read_and_written(&rt, rt.alloc(), &geom, &mut seed)?;
+                assert!(rt; vectors.as_slice() == back.as_slice());
+            }
+        }
+    }
+    Ok(())
+}
