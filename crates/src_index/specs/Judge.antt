@@ -1,0 +1,98 @@
+-- Judging a file: the first check that fails, with its packet or its place, or else the track (own).
+use Rattle.std.specs.Prelude.{◌≡◌, ℕ, ◌+◌, List, [], ◌∷◌, ◌++◌, drop, Option, Some, None, Result, Ok, Err}
+use Rattle.vid_base.specs.Reading.{◌>>=◌, and_then}
+use Rattle.ogg_page.specs.declared.fault.PageFault.{PageFault}
+use Rattle.ogg_page.specs.Page.{Page, page_at_front, bytes_of_page}
+use Rattle.ogg_page.specs.Packets.{Piece, segments, packets_from, left_from}
+use Rattle.ogg_link.specs.declared.state.State.{State}
+use Rattle.ogg_link.specs.declared.fault.LinkFault.{LinkFault}
+use Rattle.ogg_link.specs.Parts.{lacing_if}
+use Rattle.ogg_link.specs.Walk.{start, step, ended, is_of_track}
+use Rattle.ogg_link.specs.Granules.{settled}
+use Rattle.src_index.specs.declared.heads.Known.{Known}
+use Rattle.src_index.specs.declared.fault.Fault.{Fault}
+use Rattle.src_index.specs.declared.fault.Fault.TheVariants.{InPage, InLink}
+use Rattle.src_index.specs.Heads.{unknown, page_over}
+
+-- what the pages before a page leave: the walk, what the packets tell, the unfinished packet, and those that have ended
+pub record Before : Type 0 where
+  pub walk : State
+  pub known : Known
+  pub begun : List ℕ
+  pub packets : List (List ℕ)
+
+-- before the first page
+abbrev pub nothing : Before
+nothing = record { walk = start; known = unknown; begun = []; packets = [] }
+
+-- the segments of a page, where it is of the track
+abbrev pub track_pieces : State → Page → List Piece
+track_pieces walk page = segments (lacing_if (is_of_track walk page) page.lacing) page.body
+
+-- a fault is told of the page that begins at a byte, or of its place among the others
+abbrev pub in_page : {A : Type 0} → ℕ → Result A PageFault → Result A Fault
+in_page at read = and_then read Ok (InPage at)
+
+abbrev pub in_link : {A : Type 0} → ℕ → Result A LinkFault → Result A Fault
+in_link at read = and_then read Ok (InLink at)
+
+-- the packets that end with these pieces, in order, and then the one that stays unfinished
+abbrev pub pieces_over : Before → List Piece → Result Known Fault
+pieces_over before pieces = page_over before.known (packets_from before.begun pieces) (left_from before.begun pieces)
+
+-- what is left behind a page
+abbrev pub with_pieces : Before → List Piece → Known → State → Before
+with_pieces before pieces known walk = record {
+  walk = walk;
+  known = known;
+  begun = left_from before.begun pieces;
+  packets = before.packets ++ packets_from before.begun pieces;
+}
+
+-- the checks of one page in order: its place in the link, its packets, its granule position
+unfoldable pub page_checks : Before → ℕ → Page → Result Before Fault
+page_checks before at page = do
+  walk ← in_link at (step before.walk page)
+  known ← pieces_over before (track_pieces before.walk page)
+  walk ← in_link at (settled walk known.shift)
+  Ok (with_pieces before (track_pieces before.walk page) known walk)
+
+-- what judging finds: the track's packets, or the first check that fails
+abbrev pub Verdict : Type 0
+Verdict = Result (List (List ℕ)) Fault
+
+-- the verdict behind the last page
+abbrev pub end_verdict : Before → ℕ → Verdict
+end_verdict before at = do
+  walk ← in_link at (ended before.walk)
+  Ok before.packets
+
+-- the checks of the page at the front: its own, and then those above
+abbrev pub front_checks : Before → ℕ → List ℕ → Result Before Fault
+front_checks before at bytes = in_page at (page_at_front bytes) >>= page_checks before at
+
+-- a check that fails is the verdict
+abbrev pub failing : Result Before Fault → Option Verdict
+failing (Ok next) = None
+failing (Err fault) = Some (Err fault)
+
+-- the verdict that falls here, if one does: at the end, or at a page with a check that fails
+unfoldable pub verdict_here : Before → ℕ → List ℕ → Option Verdict
+verdict_here before at [] = Some (end_verdict before at)
+verdict_here before at (byte ∷ bytes) = failing (front_checks before at (byte ∷ bytes))
+
+-- behind these pages, of which no check fails, this verdict falls
+unfoldable pub Judges : Before → ℕ → List ℕ → List Page → Verdict → Type 0
+Judges before at bytes [] verdict = verdict_here before at bytes ≡ Some verdict
+Judges before at bytes (page ∷ pages) verdict =
+    (page_at_front bytes ≡ Ok page) × (next : Before) × (page_checks before at page ≡ Ok next)
+    × Judges next (at + bytes_of_page page) (drop (bytes_of_page page) bytes) pages verdict
+
+-- behind some pages this verdict falls
+pub record JudgedFrom (before : Before) (at : ℕ) (bytes : List ℕ) (verdict : Verdict) : Type 0 where
+  pub pages : List Page
+  pub judges : Judges before at bytes pages verdict
+
+-- the verdict on a file; it has one alone
+unfoldable pub Judged : List ℕ → Verdict → Type 0
+Judged bytes verdict = JudgedFrom nothing 0 bytes verdict

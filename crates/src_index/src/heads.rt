@@ -1,0 +1,127 @@
+// What the packets of a track say one after the other (Theora I, 6 and 7.1).
+ghost use Rattle.std.specs.Prelude.{◌≡◌, ◌<◌, ◌≤◌, ◌^◌, IfOk, IfErr};
+ghost use Rattle.vid_base.specs.Reading.{Refuses};
+ghost use Rattle.ogg_page.specs.Granule.{is_key as is_key_packet};
+ghost use Rattle.src_index.specs.Heads.{is_data as is_data_packet, header_step, frame_step, packet_step, most_packets};
+ghost use Rattle.src_index.specs.Track.{headers};
+
+use std::alloc::Global;
+use thr_ident::{read_comment, read_ident};
+use thr_setup::read_setup;
+use vid_base::{PacketFault, Refusal};
+
+/// How many packets precede the frames.
+pub(crate) const HEADERS: u32 = 3;
+
+/// The most packets of a track: the headers and 2^24 frames (own).
+const MOST_PACKETS: u32 = HEADERS + (1 << 24);
+
+/// The most bytes of a packet (own).
+pub(crate) const MOST_BYTES: usize = 1 << 30;
+
+/// What the packets so far tell of the next.
+#[derive(Clone, Copy)]
+pub(crate) struct Known {
+    /// How many they are.
+    pub(crate) packets: u32,
+    /// The identification header's shift of key frame numbers (KFGSHIFT), and 0 before it.
+    pub(crate) shift: u8,
+    /// The last key frame, and 0 before the first. Frames count from 0.
+    pub(crate) last_key: u32,
+}
+
+// Whether a packet holds a key frame.
+pub(crate) fn is_key(packet: &[u8]) -> bool
+    ensures { result ≡ is_key_packet packet.now }
+{
+    match packet.first() {
+        Some(byte) => *byte < 64,
+        None => false,
+    }
+}
+
+// Whether the first bit of a packet, where it has one, is that of a data packet.
+fn is_data(packet: &[u8]) -> bool
+    ensures { result ≡ is_data_packet packet.now }
+{
+    match packet.first() {
+        Some(byte) => *byte < 128,
+        None => true,
+    }
+}
+
+impl Known {
+    // A header more.
+    fn with_header(self, alloc: Global, packet: &[u8]) -> Result<Known, Refusal>
+        requires packets { self.packets < headers }
+        requires shift { self.shift < 2 ^ 5 }
+        ensures value { IfOk result (λ next. header_step self packet.now ≡ Ok next) }
+        ensures fault { IfErr result (λ refusal. Refuses refusal (header_step self packet.now)) }
+        ensures shift { IfOk result (λ next. next.shift < 2 ^ 5) }
+    {
+        let shift = match self.packets {
+            0 => read_ident(packet)?.shift,
+            1 => {
+                read_comment(packet)?;
+                self.shift
+            }
+            _ => {
+                read_setup(alloc, packet)?;
+                self.shift
+            }
+        };
+        Ok(Known {
+            packets: self.packets + 1,
+            shift,
+            ..self
+        })
+    }
+
+    // A frame more.
+    #[tactic(auto, unfolding(crate::specs::Heads::head_rules, thr_ident::specs::Rules::first_fault))]
+    fn with_frame(self, packet: &[u8]) -> Result<Known, PacketFault>
+        requires shift { self.shift < 2 ^ 5 }
+        requires packets { (headers ≤ self.packets) × (self.packets < most_packets) }
+        ensures value { IfOk result (λ next. frame_step self packet.now ≡ Ok next) }
+        ensures fault { IfErr result (λ fault. frame_step self packet.now ≡ Err fault) }
+        ensures shift { IfOk result (λ next. next.shift < 2 ^ 5) }
+    {
+        if !is_data(packet) {
+            return Err(PacketFault::NotData);
+        }
+        let key = is_key(packet);
+        if !key && self.packets == HEADERS {
+            return Err(PacketFault::FirstNotKey);
+        }
+        let frame = self.packets - HEADERS;
+        let last_key = if key { frame } else { self.last_key };
+        if frame.saturating_sub(last_key) >= 1 << self.shift {
+            return Err(PacketFault::KeyTooFar);
+        }
+        Ok(Known {
+            packets: self.packets + 1,
+            last_key,
+            ..self
+        })
+    }
+
+    // A packet more.
+    #[tactic(auto, unfolding(crate::specs::Heads::packet_step))]
+    pub(crate) fn with_packet(self, alloc: Global, packet: &[u8]) -> Result<Known, Refusal>
+        requires shift { self.shift < 2 ^ 5 }
+        ensures value { IfOk result (λ next. packet_step self packet.now ≡ Ok next) }
+        ensures fault { IfErr result (λ refusal. Refuses refusal (packet_step self packet.now)) }
+        ensures shift { IfOk result (λ next. next.shift < 2 ^ 5) }
+    {
+        if packet.len() > MOST_BYTES || self.packets >= MOST_PACKETS {
+            return Err(Refusal::Bad(PacketFault::TooLarge));
+        }
+        if self.packets < HEADERS {
+            return self.with_header(alloc, packet);
+        }
+        match self.with_frame(packet) {
+            Ok(next) => Ok(next),
+            Err(fault) => Err(Refusal::Bad(fault)),
+        }
+    }
+}
