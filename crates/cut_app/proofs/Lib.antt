@@ -1,5 +1,3 @@
-pub mod ListLemmas
-pub mod SourceLemmas
-pub mod CopyLemmas
-pub mod MakingLemmas
-pub mod CommandLemmas
+mod CheckLemmas
+mod CompleteLemmas
+mod SayingLemmas

@@ -1,11 +1,5 @@
-pub mod Words
-pub mod SliceList
-pub mod Slices
-pub mod Plain
-pub mod Sources
-pub mod Copy
-pub mod Making
-pub mod Output
-pub mod Cause
-pub mod Faults
-pub mod Names
+pub mod Forms
+pub mod Views
+pub mod Texts
+pub mod Causes
+pub mod Commands

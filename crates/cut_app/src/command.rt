@@ -1,318 +1,92 @@
-// The command `cut LIST OUT SRC`: it copies one slice of a plain source that begins at a key frame (own).
-ghost use Rattle.std.specs.Prelude.{◌≡◌, ◌⊎◌, ◌<◌, ◌≤◌, ◌↔◌, ◌∷◌, [], ℕ, List, length, map, Some, None, IfOk, IfErr, IfSome, IfNone, OnOk, IsErrOf, vec_len};
-ghost use Rattle.std.specs.Option.{option_map};
-ghost use Rattle.vid_desk.specs.Meaning.{File, Told, ToldFiles, HasCause, Rose, place_of, bytes_at, with_reads};
-ghost use Rattle.cut_app.specs.Words.{form_of, inputs_of};
-ghost use Rattle.cut_app.specs.SliceList.{slice_of};
-ghost use Rattle.cut_app.specs.Slices.{slice_view};
-ghost use Rattle.cut_app.specs.Names.{names_view};
-ghost use Rattle.cut_app.specs.Plain.{NotPlain};
-ghost use Rattle.cut_app.specs.Cause.{IsGiven, IsReady, Caused, CausedBy, Missing, IsLooking, GivesBoth, RefusesBoth, IsReading, Cuts, RefusesSource, IsCutting, Written, WrittenBy, Completes, MakesOnly, status_in};
-ghost use Rattle.cut_app.specs.Output.{Makes, MakesAtMost, Makings, Looks, Seeks, LeavesOutputsAt};
-ghost use Rattle.cut_app.specs.Faults.{reading_status, writing_status};
+// The top call: a command line over a desk (own).
+ghost use Rattle.std.specs.Prelude.{◌≡◌, ◌≤◌, ◌⊎◌, List, ℕ, Some, None, map, IfErr, OnOk, IsErrOf};
+ghost use Rattle.vid_desk.specs.Meaning.{ToldFiles, Rose};
+ghost use Rattle.cut_slice.specs.Cause.{status_in};
+ghost use Rattle.cut_slice.specs.Output.{LeavesOutputsAt, Seeks};
+ghost use Rattle.cut_app.specs.Forms.{form_of, inputs_in, inputs_of};
+ghost use Rattle.cut_app.specs.Views.{form_view};
+ghost use Rattle.cut_app.specs.Texts.{HasSaid, IsTextOf, StopsAt};
+ghost use Rattle.cut_app.specs.Causes.{CausedBy, FormCaused};
+ghost use Rattle.cut_app.specs.Commands.{Completes, MakesOnly, SaysBy, Tells, WrittenBy};
 
-use crate::Status;
-use crate::copy::copy;
-use crate::list::{Slice, read_slice};
-use crate::source::{SourceRefusal, is_key, read_source};
-use std::alloc::{AllocError, Global};
+use crate::checking::check;
+use crate::words::{Command, command_of};
+use cut_report::{Status, fault_line};
+use cut_slice::cut;
+use std::alloc::Global;
 use vid_desk::{Desk, DeskFault};
 
-/// The most bytes of a source.
-const LONGEST_SOURCE: u64 = 268_435_456;
-
-/// An input: its id, and how many bytes it has.
-#[derive(Clone, Copy)]
-struct Input {
-    id: u32,
-    size: u64,
-}
-
-/// The edit list and the source.
-#[derive(Clone, Copy)]
-struct Inputs {
-    list: Input,
-    source: Input,
-}
-
-// The status of a fault of reading.
-fn reading(fault: DeskFault) -> Status
-    ensures { result ≡ reading_status fault }
+// Says the line of a refusal in one piece.
+fn tell<D: Desk>(desk: &mut D, status: Status) -> Status
+    ensures told { Tells (D.sees desk.old) (D.sees desk.new) status result }
+    ensures kept { D.sees desk.new ≡ record (D.sees desk.old) { said = (D.sees desk.new).said; write_faults = (D.sees desk.new).write_faults } }
+    ensures count { (D.sees desk.old).write_faults ≤ (D.sees desk.new).write_faults }
 {
-    match fault {
-        DeskFault::Failed => Status::ReadFault,
-        DeskFault::NoMem => Status::NoMem,
+    match desk.say(&fault_line(&status)) {
+        Ok(()) => status,
+        Err(DeskFault::Failed) => status,
+        Err(DeskFault::NoMem) => Status::NoMem,
     }
 }
 
-// The status of a fault of writing.
-fn writing(fault: DeskFault) -> Status
-    ensures { result ≡ writing_status fault }
-{
-    match fault {
-        DeskFault::Failed => Status::WriteFault,
-        DeskFault::NoMem => Status::NoMem,
-    }
-}
-
-// Looks for both inputs, and then for their sizes.
-fn find_inputs<D: Desk>(desk: &mut D, list: &str, source: &str) -> Result<Inputs, Status>
-    ensures found { IfOk result (λ inputs. (inputs.list.id < (D.sees desk.new).found) × (inputs.source.id < (D.sees desk.new).found)) }
-    ensures places { IfOk result (λ inputs. ToldFiles (D.sees desk.old) (λ files. (place_of files list.now ≡ Some inputs.list.id) × (place_of files source.now ≡ Some inputs.source.id))) }
-    ensures sizes { IfOk result (λ inputs. ToldFiles (D.sees desk.old) (λ files. (inputs.list.size ≡ length (bytes_at files inputs.list.id)) × (inputs.source.size ≡ length (bytes_at files inputs.source.id)))) }
-    ensures missing { IfErr result (λ status. ToldFiles (D.sees desk.old) (λ files. Missing files list.now source.now status)) }
-    ensures names { Seeks (D.sees desk.old).sought (D.sees desk.new).sought (list.now ∷ source.now ∷ []) }
-    ensures kept { Looks (D.sees desk.old) (D.sees desk.new) }
-    ensures count { (D.sees desk.old).read_faults ≤ (D.sees desk.new).read_faults }
-    ensures read { IsErrOf result Status.ReadFault → Rose (D.sees desk.old).read_faults (D.sees desk.new).read_faults }
-    ensures only { IfErr result IsLooking }
-{
-    let list = match desk.find(list) {
-        Ok(Some(id)) => id,
-        Ok(None) => return Err(Status::NoFile { input: 1 }),
-        Err(fault) => return Err(reading(fault)),
-    };
-    let source = match desk.find(source) {
-        Ok(Some(id)) => id,
-        Ok(None) => return Err(Status::NoFile { input: 2 }),
-        Err(fault) => return Err(reading(fault)),
-    };
-    let (Ok(list_size), Ok(source_size)) = (desk.size(list), desk.size(source)) else {
-        return Err(Status::ReadFault);
-    };
-    Ok(Inputs {
-        list: Input {
-            id: list,
-            size: list_size,
-        },
-        source: Input {
-            id: source,
-            size: source_size,
-        },
-    })
-}
-
-// So many zeros.
-fn zeros(alloc: Global, count: usize) -> Result<Vec<u8>, AllocError>
-    ensures { IfOk result (λ zeros. vec_len zeros ≡ count) }
-{
-    Vec::from_elem(alloc, 0u8, count)
-}
-
-// All bytes of an input that has some.
-fn read_input<D: Desk>(alloc: Global, desk: &mut D, input: Input) -> Result<Vec<u8>, DeskFault>
-    requires id { input.id < (D.sees desk.old).found }
-    requires some { 0 < input.size }
-    requires size { Told (D.sees desk.old) input.id (λ bytes. input.size ≡ length bytes) }
-    ensures bytes { IfOk result (λ read. Told (D.sees desk.old) input.id (λ bytes. read.items ≡ bytes)) }
-    ensures size { IfOk result (λ read. vec_len read ≡ input.size) }
-    ensures kept { with_reads (D.sees desk.old) (D.sees desk.new) }
-    ensures cause { HasCause (D.sees desk.old).read_faults (D.sees desk.new).read_faults result }
-{
-    let Ok(mut bytes) = zeros(alloc, input.size as usize) else {
-        return Err(DeskFault::NoMem);
-    };
-    match desk.read_at(input.id, 0, &mut bytes) {
-        Ok(()) => Ok(bytes),
-        Err(_) => Err(DeskFault::Failed),
-    }
-}
-
-// The slice of an edit list, if it has the form of one.
-fn read_list<D: Desk>(alloc: Global, desk: &mut D, input: Input) -> Result<Option<Slice>, DeskFault>
-    requires id { input.id < (D.sees desk.old).found }
-    requires size { Told (D.sees desk.old) input.id (λ bytes. input.size ≡ length bytes) }
-    ensures slice { IfOk result (λ slice. Told (D.sees desk.old) input.id (λ bytes. option_map slice_view slice ≡ slice_of bytes)) }
-    ensures bounds { IfOk result (λ found. IfSome found (λ slice. (slice.first < slice.past) × (slice.past ≤ 2147483647))) }
-    ensures kept { with_reads (D.sees desk.old) (D.sees desk.new) }
-    ensures cause { HasCause (D.sees desk.old).read_faults (D.sees desk.new).read_faults result }
-{
-    if input.size == 0 {
-        return Ok(None);
-    }
-    match read_input(alloc, desk, input) {
-        Ok(text) => Ok(read_slice(&text)),
-        Err(fault) => Err(fault),
-    }
-}
-
-// The bytes of a source that may be plain by its size.
-fn read_bytes<D: Desk>(
-    alloc: Global,
-    desk: &mut D,
-    input: Input,
-) -> Result<Option<Vec<u8>>, DeskFault>
-    requires id { input.id < (D.sees desk.old).found }
-    requires size { Told (D.sees desk.old) input.id (λ bytes. input.size ≡ length bytes) }
-    ensures bytes { IfOk result (λ found. IfSome found (λ read. Told (D.sees desk.old) input.id (λ bytes. read.items ≡ bytes))) }
-    ensures not_plain { IfOk result (λ found. IfNone found (Told (D.sees desk.old) input.id NotPlain)) }
-    ensures size { IfOk result (λ found. IfSome found (λ read. vec_len read ≤ 268435456)) }
-    ensures kept { with_reads (D.sees desk.old) (D.sees desk.new) }
-    ensures cause { HasCause (D.sees desk.old).read_faults (D.sees desk.new).read_faults result }
-{
-    if input.size == 0 {
-        return Ok(None);
-    }
-    if input.size > LONGEST_SOURCE {
-        return Ok(None);
-    }
-    match read_input(alloc, desk, input) {
-        Ok(bytes) => Ok(Some(bytes)),
-        Err(fault) => Err(fault),
-    }
-}
-
-/// The slice of the list, and the bytes of the source.
-#[derive(Drop)]
-struct Read {
-    slice: Slice,
-    bytes: Vec<u8>,
-}
-
-// Reads the list, and then the source.
-fn read_both<D: Desk>(alloc: Global, desk: &mut D, list: &str, source: &str) -> Result<Read, Status>
-    ensures read { IfOk result (λ read. ToldFiles (D.sees desk.old) (λ files. GivesBoth files list.now source.now (slice_view read.slice) read.bytes.items)) }
-    ensures bounds { IfOk result (λ read. (read.slice.first < read.slice.past) × (read.slice.past ≤ 2147483647) × (vec_len read.bytes ≤ 268435456)) }
-    ensures refused { IfErr result (λ status. ToldFiles (D.sees desk.old) (λ files. RefusesBoth files list.now source.now status)) }
-    ensures names { Seeks (D.sees desk.old).sought (D.sees desk.new).sought (list.now ∷ source.now ∷ []) }
-    ensures kept { Looks (D.sees desk.old) (D.sees desk.new) }
-    ensures count { (D.sees desk.old).read_faults ≤ (D.sees desk.new).read_faults }
-    ensures fault { IsErrOf result Status.ReadFault → Rose (D.sees desk.old).read_faults (D.sees desk.new).read_faults }
-    ensures only { IfErr result IsReading }
-{
-    let inputs = match find_inputs(desk, list, source) {
-        Ok(inputs) => inputs,
-        Err(status) => return Err(status),
-    };
-    let slice = match read_list(alloc, desk, inputs.list) {
-        Ok(Some(slice)) => slice,
-        Ok(None) => return Err(Status::NotYet),
-        Err(fault) => return Err(reading(fault)),
-    };
-    match read_bytes(alloc, desk, inputs.source) {
-        Ok(Some(bytes)) => Ok(Read { slice, bytes }),
-        Ok(None) => Err(Status::NotYet),
-        Err(fault) => Err(reading(fault)),
-    }
-}
-
-// Cuts the slice out of the source's bytes.
-fn cut_source<D: Desk>(
-    alloc: Global,
-    desk: &mut D,
-    out: &str,
-    slice: Slice,
-    bytes: &[u8],
-) -> Result<(), Status>
-    requires some { slice.first < slice.past }
-    requires bound { slice.past ≤ 2147483647 }
-    requires size { length bytes.now ≤ 268435456 }
-    ensures cut { OnOk result (Cuts (D.sees desk.old) (D.sees desk.new) out.now (slice_view slice) bytes.now) }
-    ensures refused { IfErr result (RefusesSource (slice_view slice) bytes.now) }
-    ensures outputs { MakesAtMost (D.sees desk.old) (D.sees desk.new) out.now }
+// Does a command.
+fn run<D: Desk>(alloc: Global, desk: &mut D, command: Command) -> Result<(), Status>
+    ensures caused { ToldFiles (D.sees desk.old) (λ files. FormCaused (form_view command.entry) files (status_in result)) }
+    ensures written { OnOk result (ToldFiles (D.sees desk.old) (λ files. WrittenBy (D.sees desk.old) (D.sees desk.new) (Some (form_view command.entry)) files)) }
+    ensures outputs { MakesOnly (D.sees desk.old) (D.sees desk.new) (Some (form_view command.entry)) }
     ensures before { LeavesOutputsAt (status_in result) (D.sees desk.old) (D.sees desk.new) }
-    ensures kept { Makings (D.sees desk.old) (D.sees desk.new) }
-    ensures fault { IsErrOf result Status.WriteFault → Rose (D.sees desk.old).write_faults (D.sees desk.new).write_faults }
-    ensures only { IfErr result IsCutting }
-{
-    let source = match read_source(alloc, bytes) {
-        Ok(source) => source,
-        Err(SourceRefusal::NotPlain) => return Err(Status::NotYet),
-        Err(SourceRefusal::NoMem) => return Err(Status::NoMem),
-    };
-    if slice.past as usize > source.frames.len() {
-        return Err(Status::NotYet);
-    }
-    if !is_key(source.frames[slice.first as usize]) {
-        return Err(Status::InPointNotKey);
-    }
-    match copy(alloc, desk, out, &source, slice) {
-        Ok(()) => Ok(()),
-        Err(fault) => Err(writing(fault)),
-    }
-}
-
-// Reads both inputs and cuts.
-fn cut<D: Desk>(
-    alloc: Global,
-    desk: &mut D,
-    list: &str,
-    out: &str,
-    source: &str,
-) -> Result<(), Status>
-    ensures caused { ToldFiles (D.sees desk.old) (λ files. Caused (record { list = list.now; out = out.now; source = source.now }) files (status_in result)) }
-    ensures written { OnOk result (ToldFiles (D.sees desk.old) (λ files. Written (D.sees desk.old) (D.sees desk.new) (record { list = list.now; out = out.now; source = source.now }) files)) }
-    ensures outputs { MakesAtMost (D.sees desk.old) (D.sees desk.new) out.now }
-    ensures before { LeavesOutputsAt (status_in result) (D.sees desk.old) (D.sees desk.new) }
-    ensures names { Seeks (D.sees desk.old).sought (D.sees desk.new).sought (list.now ∷ source.now ∷ []) }
+    ensures names { Seeks (D.sees desk.old).sought (D.sees desk.new).sought (inputs_in (form_view command.entry)) }
     ensures inputs { (D.sees desk.new).inputs ≡ (D.sees desk.old).inputs }
-    ensures said { (D.sees desk.new).said ≡ (D.sees desk.old).said }
+    ensures said { OnOk result (ToldFiles (D.sees desk.old) (λ files. (text : List ℕ) × IsTextOf (form_view command.entry) files text × HasSaid (D.sees desk.old) (D.sees desk.new) text)) }
+    ensures stops { IfErr result (StopsAt (form_view command.entry) (D.sees desk.old) (D.sees desk.new)) }
+    ensures count { (D.sees desk.old).write_faults ≤ (D.sees desk.new).write_faults }
     ensures read { IsErrOf result Status.ReadFault → Rose (D.sees desk.old).read_faults (D.sees desk.new).read_faults }
     ensures write { IsErrOf result Status.WriteFault → Rose (D.sees desk.old).write_faults (D.sees desk.new).write_faults }
     ensures usage { ¬ IsErrOf result Status.Usage }
     ensures done { ¬ IsErrOf result Status.Done }
 {
-    if out == list || out == source {
-        return Err(Status::NotYet);
+    match command {
+        Command::Check { file } => check(alloc, desk, file),
+        Command::Cut { list, out, source } => cut(alloc, desk, list, out, source),
     }
-    match read_both(alloc, desk, list, source) {
-        Ok(read) => match cut_source(alloc, desk, out, read.slice, &read.bytes) {
-            Ok(()) => Ok(()),
-            Err(status) => Err(status),
-        },
-        Err(status) => Err(status),
-    }
-}
-
-/// The names in the words of `cut LIST OUT SRC`.
-#[derive(Clone, Copy)]
-struct Names<'a> {
-    list: &'a str,
-    out: &'a str,
-    source: &'a str,
-}
-
-// The names in words that have a form.
-fn names_in<'a>(words: &[&'a str]) -> Option<Names<'a>>
-    ensures { option_map names_view result ≡ form_of (map (λ word. word.now) words.now) }
-{
-    let [command, list, out, source] = words else {
-        return None;
-    };
-    if *command != "cut" {
-        return None;
-    }
-    Some(Names { list, out, source })
 }
 
 /// Does what the words say, over the desk's inputs, outputs and text, and tells how it ended.
 ///
+/// `check FILE` judges a file on the heads of its frames. The order of refusals is: the words; the file that is not there;
+/// a file of more than 268,435,456 bytes; the first check that fails. It says a line for the file's link.
+///
 /// `cut LIST OUT SRC` copies the slice of the list LIST out of the plain source SRC into the new output OUT. The order
 /// of refusals is: the words; names that are the same; inputs that are not there, in the order of the words; the form
 /// of the list; the source; the slice past its frames; the in-point. No output is created before all of these were
-/// looked at. Nothing is said.
+/// looked at. It says nothing.
+///
+/// A status other than `Done` says its line, in one piece, behind what was said before it. The status stays where that
+/// fails, and becomes `NoMem` where no memory is found for it.
 pub fn oggcut<D: Desk>(alloc: Global, words: &[&str], desk: &mut D) -> Status
     // The words alone decide whether they have a form.
-    ensures usage { (result ≡ Status.Usage) ↔ (form_of (map (λ word. word.now) words.now) ≡ None) }
+    ensures usage { result ≡ Status.Usage → form_of (map (λ word. word.now) words.now) ≡ None }
+    ensures formless { form_of (map (λ word. word.now) words.now) ≡ None → (result ≡ Status.Usage) ⊎ (result ≡ Status.NoMem) }
     // Over inputs that are told, each status has its cause, so that each cause has its status.
     ensures caused { ToldFiles (D.sees desk.old) (λ files. CausedBy (form_of (map (λ word. word.now) words.now)) files result) }
     // The output of a cut that was done holds the pages of the source's headers and of the frames of the slice.
     ensures written { result ≡ Status.Done → ToldFiles (D.sees desk.old) (λ files. WrittenBy (D.sees desk.old) (D.sees desk.new) (form_of (map (λ word. word.now) words.now)) files) }
-    // Where all is given and no count of faults rises, the cut is done.
+    // Where all is given and no count of faults rises, the command is done.
     ensures complete { ToldFiles (D.sees desk.old) (λ files. Completes (D.sees desk.old) (D.sees desk.new) (form_of (map (λ word. word.now) words.now)) files result) }
     ensures outputs { MakesOnly (D.sees desk.old) (D.sees desk.new) (form_of (map (λ word. word.now) words.now)) }
     ensures before { LeavesOutputsAt result (D.sees desk.old) (D.sees desk.new) }
     ensures names { Seeks (D.sees desk.old).sought (D.sees desk.new).sought (inputs_of (form_of (map (λ word. word.now) words.now))) }
     ensures inputs { (D.sees desk.new).inputs ≡ (D.sees desk.old).inputs }
-    ensures said { (D.sees desk.new).said ≡ (D.sees desk.old).said }
+    // The text of a command that was done, or else the line of its status.
+    ensures said { SaysBy (form_of (map (λ word. word.now) words.now)) (D.sees desk.old) (D.sees desk.new) result }
     ensures read { result ≡ Status.ReadFault → Rose (D.sees desk.old).read_faults (D.sees desk.new).read_faults }
     ensures write { result ≡ Status.WriteFault → Rose (D.sees desk.old).write_faults (D.sees desk.new).write_faults }
 {
-    let Some(names) = names_in(words) else {
-        return Status::Usage;
+    let Some(command) = command_of(words) else {
+        return tell(desk, Status::Usage);
     };
-    match cut(alloc, desk, names.list, names.out, names.source) {
+    match run(alloc, desk, command) {
         Ok(()) => Status::Done,
-        Err(status) => status,
+        Err(status) => tell(desk, status),
     }
 }

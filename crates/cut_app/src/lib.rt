@@ -1,14 +1,12 @@
 //! The commands of the program, each a function of the words and of a desk (own).
 #![tactic(auto)]
 
+mod checking;
 mod command;
-mod copy;
-mod list;
-mod source;
-mod status;
+mod words;
 
 pub use command::oggcut;
-pub use status::Status;
+pub use cut_report::Status;
 
 #[cfg(test)]
 mod tests;

@@ -1,16 +1,17 @@
-use Rattle.std.proofs.Common.{◌≡◌, Some, None, ap, sym, ◌∙◌, refl, map, rules}
-use Rattle.std.specs.Option.{option_map}
-use Rattle.cut_app.specs.Words.{Cut, form_of}
-use Rattle.cut_app.specs.Names.{names_view}
-use Rattle.cut_app.proofs.CommandLemmas.{completes}
+use Rattle.std.proofs.Common.{◌≡◌, Some, sym, refl, map}
+use Rattle.cut_app.specs.Forms.{form_of}
+use Rattle.cut_app.specs.Views.{form_view}
+use Rattle.cut_app.proofs.CompleteLemmas.{completes_told}
+use Rattle.cut_app.proofs.SayingLemmas.{says_told}
 use Rattle.cut_app.proofs.command.oggcut.Goals as goal
-
-pub returns-in-Ok-clause-written : goal.returns-in-Ok-clause-written
-returns-in-Ok-clause-written g c =
-    let form : form_of (map (λ word. word.now) c.args.words.now) ≡ Some (names_view c.in-Some.names) = sym c.in-Some.ensures in
-    rw form (λ _. c.in-Ok.ensures.written)
 
 pub returns-in-Err-clause-complete : goal.returns-in-Err-clause-complete
 returns-in-Err-clause-complete g c =
-    let form : form_of (map (λ word. word.now) c.args.words.now) ≡ Some (names_view c.in-Some.names) = sym c.in-Some.ensures in
-    rw form (λ files told. completes (g.D.Desk.sees c.args.desk.now) (g.D.Desk.sees c.cut.new.desk) (names_view c.in-Some.names) files c.in-Err.status (c.in-Err.ensures.caused files told) (λ e. c.in-Err.ensures.read (rw e refl)) (λ e. c.in-Err.ensures.write (rw e refl)))
+    let form : form_of (map (λ word. word.now) c.args.words.now) ≡ Some (form_view c.in-Some.command) = sym c.in-Some.ensures in
+    rw form (λ files told. completes_told (g.D.Desk.sees c.args.desk.now) (g.D.Desk.sees c.run.new.desk) (g.D.Desk.sees c.tell-in-Err.new.desk) (form_view c.in-Some.command) files c.in-Err.status c.tell-in-Err.result (c.in-Err.ensures.caused files told)
+    (λ e. c.in-Err.ensures.read (rw e refl)) (λ e. c.in-Err.ensures.write (rw e refl)) c.tell-in-Err.ensures.kept c.tell-in-Err.ensures.count c.tell-in-Err.ensures.told)
+
+pub returns-in-Err-clause-said : goal.returns-in-Err-clause-said
+returns-in-Err-clause-said g c =
+    let form : form_of (map (λ word. word.now) c.args.words.now) ≡ Some (form_view c.in-Some.command) = sym c.in-Some.ensures in
+    rw form (says_told (g.D.Desk.sees c.args.desk.now) (g.D.Desk.sees c.run.new.desk) (g.D.Desk.sees c.tell-in-Err.new.desk) (form_view c.in-Some.command) c.in-Err.status c.tell-in-Err.result c.in-Err.ensures.stops (λ e. c.in-Err.ensures.done (rw e refl)) c.in-Err.ensures.count c.tell-in-Err.ensures.told)

@@ -1,0 +1,10 @@
+use Rattle.std.proofs.Common.{◌≡◌, ◌≤◌}
+use Rattle.cut_app.proofs.CheckLemmas.{keys_among}
+use Rattle.cut_app.proofs.checking.key_count.Given as goal
+
+-- the key frames before this one were counted
+abbrev pub invariant-frames : goal.invariant-frames
+invariant-frames l = record {
+  counted : l.keys ≡ keys_among l.n l.source.packets;
+  few : l.keys ≤ l.n;
+}

@@ -1,0 +1,73 @@
+-- When each status comes, over inputs that are told (own).
+use Rattle.std.specs.Prelude.{◌≡◌, ⊤, ℕ, ◌<◌, List, length, Option, Some, None, Ok, Err, ◌⊎◌}
+use Rattle.vid_desk.specs.Meaning.{File, place_of}
+use Rattle.src_index.specs.declared.fault.Fault.{Fault}
+use Rattle.src_index.specs.declared.fault.Fault.TheVariants.{InPacket, InPage, InLink}
+use Rattle.src_index.specs.declared.fault.SourceFault.{SourceFault}
+use Rattle.src_index.specs.declared.fault.SourceFault.TheVariants.{Bad, Page as PageFault, Link as LinkFault, TooLong as LongFile, ReadFault as ReadFailed, Changed, NoMem as NoMemory}
+use Rattle.src_index.specs.Track.{Track}
+use Rattle.src_index.specs.Loading.{longest}
+use Rattle.cut_slice.specs.Cause.{contents, Caused}
+use Rattle.cut_report.specs.declared.status.SourceWhat.{SourceWhat}
+use Rattle.cut_report.specs.declared.status.SourceWhat.TheVariants.{Packet, Page, Link}
+use Rattle.cut_report.specs.declared.status.Status.{Status}
+use Rattle.cut_report.specs.declared.status.Status.TheVariants.{Done, Usage, NoFile, BadSource, ReadFault, WriteFault, NoMem, TooLong, InPointNotKey, NotYet}
+use Rattle.cut_app.specs.Forms.{Form}
+use Rattle.cut_app.specs.Forms.Form.{Checking, Cutting}
+use Rattle.cut_app.specs.Texts.{IsFound}
+
+-- the first check that fails, as a status names it
+abbrev pub what_of : Fault → SourceWhat
+what_of (InPacket link packet fault) = Packet link packet fault
+what_of (InPage at fault) = Page at fault
+what_of (InLink at fault) = Link at fault
+
+-- the first file of a check is its only input and its only source
+abbrev pub first_file : ℕ
+first_file = 1
+
+-- the status of a check whose file gives no source
+abbrev pub refusal_status : SourceFault → Status
+refusal_status (Bad link packet fault) = BadSource first_file (what_of (InPacket link packet fault))
+refusal_status (PageFault at fault) = BadSource first_file (what_of (InPage at fault))
+refusal_status (LinkFault at fault) = BadSource first_file (what_of (InLink at fault))
+refusal_status (LongFile size) = TooLong first_file size
+refusal_status NoMemory = NoMem
+refusal_status ReadFailed = ReadFault
+refusal_status Changed = ReadFault
+
+-- the file of that name is there, and has so many bytes, which are too many
+abbrev pub IsOverlong : List File → List ℕ → ℕ → Type 0
+IsOverlong files name size = (bytes : List ℕ) × (contents files name ≡ Some bytes) × (size ≡ length bytes) × (longest < length bytes)
+
+-- the cause of each status of a check; want of memory has none, and a desk's counts show the faults of reading and writing
+abbrev pub CheckCaused : List ℕ → List File → Status → Type 0
+CheckCaused file files Done = (track : Track) × IsFound files file (Ok track.packets)
+CheckCaused file files (NoFile input) = (input ≡ first_file) × (place_of files file ≡ None)
+CheckCaused file files (BadSource source what) = (source ≡ first_file) × (fault : Fault) × (what ≡ what_of fault) × IsFound files file (Err fault)
+CheckCaused file files (TooLong input size) = (input ≡ first_file) × IsOverlong files file size
+CheckCaused file files ReadFault = ⊤
+CheckCaused file files WriteFault = ⊤
+CheckCaused file files NoMem = ⊤
+CheckCaused file files Usage = ⊥
+CheckCaused file files InPointNotKey = ⊥
+CheckCaused file files NotYet = ⊥
+
+-- statuses that come before a check has its source
+abbrev pub IsChecking : Status → Type 0
+IsChecking (NoFile input) = ⊤
+IsChecking (BadSource source what) = ⊤
+IsChecking (TooLong input size) = ⊤
+IsChecking ReadFault = ⊤
+IsChecking NoMem = ⊤
+IsChecking status = ⊥
+
+-- the cause of each status of a command
+abbrev pub FormCaused : Form → List File → Status → Type 0
+FormCaused (Checking file) files status = CheckCaused file files status
+FormCaused (Cutting cut) files status = Caused cut files status
+
+-- the same of words, which may have no form; then they are Usage, or no memory was found to say so
+abbrev pub CausedBy : Option Form → List File → Status → Type 0
+CausedBy None files status = (status ≡ Usage) ⊎ (status ≡ NoMem)
+CausedBy (Some form) files status = FormCaused form files status

@@ -1,0 +1,59 @@
+-- What a command leaves, by the form of its words (own).
+use Rattle.std.specs.Prelude.{◌≡◌, ⊤, true, List, [], Option, Some, None, Ok, ◌⊎◌}
+use Rattle.vid_desk.specs.Meaning.{File, Meaning}
+use Rattle.ogg_page.specs.Granule.{is_key}
+use Rattle.src_index.specs.Track.{Track}
+use Rattle.cut_slice.specs.SliceList.{Slice}
+use Rattle.cut_slice.specs.Plain.{Packets}
+use Rattle.cut_slice.specs.Output.{MakesAtMost, LeavesOutputs}
+use Rattle.cut_slice.specs.Cause.{IsReady, IsCalm, in_point, Written}
+use Rattle.cut_report.specs.declared.status.Status.{Status}
+use Rattle.cut_report.specs.declared.status.Status.TheVariants.{Done, NoMem, Usage}
+use Rattle.cut_report.specs.Lines.{fault_text}
+use Rattle.cut_app.specs.Forms.{Form}
+use Rattle.cut_app.specs.Forms.Form.{Checking, Cutting}
+use Rattle.cut_app.specs.Texts.{IsFound, SaysOn, SaysLine, HasSaid}
+
+-- what a command that was done has written: a check writes nothing, and a cut the pages of its slice
+abbrev pub WrittenBy : Meaning → Meaning → Option Form → List File → Type 0
+WrittenBy old new None files = ⊥
+WrittenBy old new (Some (Checking file)) files = LeavesOutputs old new
+WrittenBy old new (Some (Cutting cut)) files = Written old new cut files
+
+-- what a command needs: a check, a file in which judging finds no fault; a cut, a list and a source that are ready, and a
+-- key frame at the in-point
+abbrev pub IsGivenAll : Form → List File → Type 0
+IsGivenAll (Checking file) files = (track : Track) × IsFound files file (Ok track.packets)
+IsGivenAll (Cutting cut) files = (slice : Slice) × (packets : Packets) × IsReady cut files slice packets × (is_key (in_point slice packets) ≡ true)
+
+-- where all is given and no fault was counted, the command is done or no memory was found
+abbrev pub Completes : Meaning → Meaning → Option Form → List File → Status → Type 0
+Completes old new None files status = ⊤
+Completes old new (Some form) files status = IsGivenAll form files → IsCalm old new → (status ≡ Done) ⊎ (status ≡ NoMem)
+
+-- a check creates no output, and a cut at most one, under the name OUT
+abbrev pub MakesOnly : Meaning → Meaning → Option Form → Type 0
+MakesOnly old new None = LeavesOutputs old new
+MakesOnly old new (Some (Checking file)) = LeavesOutputs old new
+MakesOnly old new (Some (Cutting cut)) = MakesAtMost old new cut.out
+
+-- what was said on a status
+abbrev pub SaysBy : Option Form → Meaning → Meaning → Status → Type 0
+SaysBy None old new Usage = SaysLine old new (fault_text Usage)
+SaysBy None old new status = HasSaid old new []
+SaysBy (Some form) old new status = SaysOn form old new status
+
+-- a line was said of a status, which stays; but where no memory was found to say it, nothing was said
+abbrev pub Tells : Meaning → Meaning → Status → Status → Type 0
+Tells old new status told = ((told ≡ status) × SaysLine old new (fault_text status)) ⊎ ((told ≡ NoMem) × HasSaid old new [])
+
+-- nothing but the text, the names looked for, the counts of faults and what was read changed
+abbrev pub ReadsAndSays : Meaning → Meaning → Type 0
+ReadsAndSays old new = new ≡ record old {
+  said = new.said;
+  sought = new.sought;
+  read_faults = new.read_faults;
+  write_faults = new.write_faults;
+  asked = new.asked;
+  found = new.found;
+}

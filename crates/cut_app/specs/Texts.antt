@@ -1,0 +1,76 @@
+-- What a command says (own).
+use Rattle.std.specs.Prelude.{◌≡◌, ℕ, List, [], ◌++◌, length, filter, drop, Some, Ok, ◌⊎◌}
+use Rattle.std.specs.Option.{option_map}
+use Rattle.vid_desk.specs.Meaning.{File, Meaning, ToldFiles, Rose}
+use Rattle.ogg_page.specs.Granule.{is_key}
+use Rattle.thr_ident.specs.declared.ident.Ident.{Ident}
+use Rattle.thr_ident.specs.Ident.{ident_of, header_of}
+use Rattle.src_index.specs.Track.{Track, packet_at, frame_count, headers}
+use Rattle.src_index.specs.Judge.{Verdict}
+use Rattle.src_index.specs.Loading.{IsJudged}
+use Rattle.cut_slice.specs.Cause.{contents}
+use Rattle.cut_report.specs.Lines.{fault_text, link_text}
+use Rattle.cut_report.specs.declared.status.Status.{Status}
+use Rattle.cut_report.specs.declared.status.Status.TheVariants.{Done, WriteFault, NoMem}
+use Rattle.cut_app.specs.Forms.{Form}
+use Rattle.cut_app.specs.Forms.Form.{Checking, Cutting}
+
+-- the file of that name is there, it is not too long, and judging it finds this
+pub record IsFound (files : List File) (name : List ℕ) (verdict : Verdict) : Type 0 where
+  pub bytes : List ℕ
+  pub there : contents files name ≡ Some bytes
+  pub judged : IsJudged bytes verdict
+
+-- how many key frames a track has
+abbrev pub key_count : Track → ℕ
+key_count track = length (filter is_key (drop headers track.packets))
+
+-- the line of a track's one link
+pub record IsTrackText (track : Track) (text : List ℕ) : Type 0 where
+  pub ident : Ident
+  pub header : ident_of (packet_at track 0) ≡ Ok (header_of ident)
+  pub text_is : text ≡ link_text 1 ident (frame_count track) (key_count track)
+
+-- the text of a check that was done: the line of the track that judging finds in the file
+pub record IsCheckText (files : List File) (file text : List ℕ) : Type 0 where
+  pub track : Track
+  pub found : IsFound files file (Ok track.packets)
+  pub line : IsTrackText track text
+
+-- the text of a command that was done; a cut says nothing
+abbrev pub IsTextOf : Form → List File → List ℕ → Type 0
+IsTextOf (Checking file) files text = IsCheckText files file text
+IsTextOf (Cutting cut) files text = text ≡ []
+
+-- this text was said
+abbrev pub HasSaid : Meaning → Meaning → List ℕ → Type 0
+HasSaid old new came = new.said ≡ option_map (λ text. text ++ came) old.said
+
+-- a line was said: all of it, or a first part where a fault of writing was counted
+abbrev pub SaysLine : Meaning → Meaning → List ℕ → Type 0
+SaysLine old new line = HasSaid old new line ⊎ ((came : List ℕ) × (rest : List ℕ) × (line ≡ came ++ rest) × HasSaid old new came × Rose old.write_faults new.write_faults)
+
+-- this is a first part of the text of the command, where it was done
+abbrev pub IsFirstPart : Meaning → Form → List ℕ → Type 0
+IsFirstPart m form first = (first ≡ []) ⊎ ToldFiles m (λ files. (rest : List ℕ) × IsTextOf form files (first ++ rest))
+
+-- a command was refused: it said nothing, but where writing failed a first part of its text
+abbrev pub StopsAt : Form → Meaning → Meaning → Status → Type 0
+StopsAt form old new WriteFault = (first : List ℕ) × HasSaid old new first × IsFirstPart old form first
+StopsAt form old new status = new.said ≡ old.said
+
+-- a command broke off: it said a first part of its text, and then a first part of a line
+pub record BreaksOff (old new : Meaning) (form : Form) (line : List ℕ) : Type 0 where
+  pub first : List ℕ
+  pub came : List ℕ
+  pub rest : List ℕ
+  pub line_is : line ≡ came ++ rest
+  pub said : HasSaid old new (first ++ came)
+  pub part : IsFirstPart old form first
+
+-- what was said, by the status: the text of a command that was done, or else the line of the status
+abbrev pub SaysOn : Form → Meaning → Meaning → Status → Type 0
+SaysOn form old new Done = ToldFiles old (λ files. (text : List ℕ) × IsTextOf form files text × HasSaid old new text)
+SaysOn form old new WriteFault = BreaksOff old new form (fault_text WriteFault)
+SaysOn form old new NoMem = BreaksOff old new form (fault_text NoMem)
+SaysOn form old new status = SaysLine old new (fault_text status)

@@ -1,0 +1,131 @@
+// The command `check FILE`: it judges a file and says what it holds (own).
+ghost use Rattle.std.specs.Prelude.{◌≡◌, ◌≢◌, ◌≤◌, ◌∷◌, [], List, ℕ, Ok, IfOk, IfErr, OnOk, IsErrOf};
+ghost use Rattle.vid_desk.specs.Meaning.{ToldFiles, Rose};
+ghost use Rattle.cut_slice.specs.Cause.{status_in};
+ghost use Rattle.cut_slice.specs.Output.{Looks, Seeks};
+ghost use Rattle.cut_app.specs.Forms.Form.{Checking};
+ghost use Rattle.cut_app.specs.Texts.{key_count as key_count_of, HasSaid, IsCheckText, IsFound, IsTrackText, StopsAt};
+ghost use Rattle.cut_app.specs.Causes.{refusal_status, CheckCaused, IsChecking};
+ghost use Rattle.cut_app.specs.Commands.{ReadsAndSays};
+
+use cut_report::{SourceWhat, Status, link_line};
+use cut_slice::{reading, writing};
+use src_index::{Source, SourceFault};
+use std::alloc::Global;
+use vid_base::NoMem;
+use vid_desk::Desk;
+
+/// The file of a check is its first input, and its first source.
+const FIRST: u32 = 1;
+
+/// A source has one link, the first.
+const LINK: u32 = 1;
+
+// How many frames of a source are key frames.
+fn key_count(source: &Source) -> u32
+    ensures { result ≡ key_count_of source.now }
+{
+    let mut keys = 0u32;
+    'frames: for n in 0..source.frames() {
+        keys += u32::from(source.is_key(n));
+    }
+    keys
+}
+
+// The line of the one link of a source.
+fn check_text(alloc: Global, source: &Source) -> Result<Vec<u8>, NoMem>
+    ensures { IfOk result (λ text. IsTrackText source.now text.items) }
+{
+    let mut text = Vec::new(alloc);
+    link_line(
+        &mut text,
+        LINK,
+        source.ident(LINK),
+        source.frames(),
+        key_count(source),
+    )?;
+    Ok(text)
+}
+
+// The status of a file in which a check fails.
+fn bad(what: SourceWhat) -> Status
+    ensures { result ≡ Status.BadSource 1 what }
+{
+    Status::BadSource {
+        source: FIRST,
+        what,
+    }
+}
+
+// The status of a file that gives no source. A source that is loaded is never `Changed`.
+fn refused(fault: SourceFault) -> Status
+    ensures { result ≡ refusal_status fault }
+{
+    match fault {
+        SourceFault::Bad {
+            link,
+            packet,
+            fault,
+        } => bad(SourceWhat::Packet {
+            link,
+            packet,
+            fault,
+        }),
+        SourceFault::Page { at, fault } => bad(SourceWhat::Page { at, fault }),
+        SourceFault::Link { at, fault } => bad(SourceWhat::Link { at, fault }),
+        SourceFault::TooLong { bytes } => Status::TooLong {
+            input: FIRST,
+            bytes,
+        },
+        SourceFault::NoMem => Status::NoMem,
+        SourceFault::ReadFault => Status::ReadFault,
+        SourceFault::Changed => Status::ReadFault,
+    }
+}
+
+// Looks for the file and judges it.
+fn judge<D: Desk>(alloc: Global, desk: &mut D, file: &str) -> Result<Source, Status>
+    ensures found { IfOk result (λ source. ToldFiles (D.sees desk.old) (λ files. IsFound files file.now (Ok source.packets))) }
+    ensures caused { IfErr result (λ status. ToldFiles (D.sees desk.old) (λ files. CheckCaused file.now files status)) }
+    ensures names { Seeks (D.sees desk.old).sought (D.sees desk.new).sought (file.now ∷ []) }
+    ensures kept { Looks (D.sees desk.old) (D.sees desk.new) }
+    ensures count { (D.sees desk.old).read_faults ≤ (D.sees desk.new).read_faults }
+    ensures read { IsErrOf result Status.ReadFault → Rose (D.sees desk.old).read_faults (D.sees desk.new).read_faults }
+    ensures only { IfErr result IsChecking }
+{
+    let id = match desk.find(file) {
+        Ok(Some(id)) => id,
+        Ok(None) => return Err(Status::NoFile { input: FIRST }),
+        Err(fault) => return Err(reading(fault)),
+    };
+    match Source::load(alloc, desk, id) {
+        Ok(source) => Ok(source),
+        Err(fault) => Err(refused(fault)),
+    }
+}
+
+/// Does `check FILE`: it judges the file, and says the line of its link.
+pub(crate) fn check<D: Desk>(alloc: Global, desk: &mut D, file: &str) -> Result<(), Status>
+    ensures caused { ToldFiles (D.sees desk.old) (λ files. CheckCaused file.now files (status_in result)) }
+    ensures said { OnOk result (ToldFiles (D.sees desk.old) (λ files. (text : List ℕ) × IsCheckText files file.now text × HasSaid (D.sees desk.old) (D.sees desk.new) text)) }
+    ensures stops { IfErr result (StopsAt (Checking file.now) (D.sees desk.old) (D.sees desk.new)) }
+    ensures names { Seeks (D.sees desk.old).sought (D.sees desk.new).sought (file.now ∷ []) }
+    ensures kept { ReadsAndSays (D.sees desk.old) (D.sees desk.new) }
+    ensures count { (D.sees desk.old).write_faults ≤ (D.sees desk.new).write_faults }
+    ensures read { IsErrOf result Status.ReadFault → Rose (D.sees desk.old).read_faults (D.sees desk.new).read_faults }
+    ensures write { IsErrOf result Status.WriteFault → Rose (D.sees desk.old).write_faults (D.sees desk.new).write_faults }
+    ensures usage { ¬ IsErrOf result Status.Usage }
+    ensures done { ¬ IsErrOf result Status.Done }
+{
+    let source = match judge(alloc, desk, file) {
+        Ok(source) => source,
+        Err(status) => return Err(status),
+    };
+    let Ok(text) = check_text(alloc, &source) else {
+        return Err(Status::NoMem);
+    };
+    match desk.say(&text) {
+        Ok(()) => Ok(()),
+        Err(fault) => Err(writing(fault)),
+    }
+}

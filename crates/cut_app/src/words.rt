@@ -1,0 +1,37 @@
+// The words of a command line (own).
+ghost use Rattle.std.specs.Prelude.{◌≡◌, map};
+ghost use Rattle.std.specs.Option.{option_map};
+ghost use Rattle.cut_app.specs.Forms.{form_of};
+ghost use Rattle.cut_app.specs.Views.{form_view};
+
+/// A command and the names in its words.
+#[derive(Clone, Copy)]
+pub(crate) enum Command<'a> {
+    Check {
+        file: &'a str,
+    },
+    Cut {
+        list: &'a str,
+        out: &'a str,
+        source: &'a str,
+    },
+}
+
+/// The command of words that have a form.
+pub(crate) fn command_of<'a>(words: &[&'a str]) -> Option<Command<'a>>
+    ensures { option_map form_view result ≡ form_of (map (λ word. word.now) words.now) }
+{
+    if let [command, file] = words {
+        if *command == "check" {
+            return Some(Command::Check { file });
+        }
+        return None;
+    }
+    let [command, list, out, source] = words else {
+        return None;
+    };
+    if *command != "cut" {
+        return None;
+    }
+    Some(Command::Cut { list, out, source })
+}

@@ -1,0 +1,10 @@
+pub mod Words
+pub mod SliceList
+pub mod Slices
+pub mod Plain
+pub mod Sources
+pub mod Copy
+pub mod Making
+pub mod Output
+pub mod Cause
+pub mod Faults
