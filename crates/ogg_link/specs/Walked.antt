@@ -1,9 +1,12 @@
 -- What the calls of a walk answer, and how they leave it (own).
-use Rattle.std.specs.Prelude.{◌≡◌, ⊤, Option, Some, None, Result, Ok, Err}
+use Rattle.std.specs.Prelude.{◌≡◌, ◌<◌, ⊤, Option, Some, None, Result, Ok, Err, IsOk, length}
+use Rattle.ogg_page.specs.Page.{Page}
 use Rattle.ogg_link.specs.declared.state.State.{State}
 use Rattle.ogg_link.specs.declared.fault.LinkFault.{LinkFault}
 use Rattle.ogg_link.specs.declared.fault.LinkRefusal.{LinkRefusal}
 use Rattle.ogg_link.specs.declared.fault.LinkRefusal.TheVariants.{Bad, NoMem}
+use Rattle.ogg_link.specs.Parts.{parts_of, lacing_if}
+use Rattle.ogg_link.specs.Walk.{step, is_of_track}
 
 -- a walk: what is known, and the fault with which it failed
 pub record Walked : Type 0 where
@@ -30,3 +33,7 @@ MovesOrNoMem (Err NoMem) old new next = ⊤
 abbrev pub Refuses : LinkRefusal → Result State LinkFault → Type 0
 Refuses (Bad fault) next = next ≡ Err fault
 Refuses NoMem next = ⊤
+
+-- the page has no fault and brings parts: only these take memory
+abbrev pub BringsParts : State → Page → Type 0
+BringsParts state page = IsOk (step state page) × (0 < length (parts_of state.progress.unfinished (lacing_if (is_of_track state page) page.lacing)))

@@ -1,10 +1,10 @@
 // A page in its place in the link, and the end of the file (RFC 3533, 4 to 6).
-ghost use Rattle.std.specs.Prelude.{◌≡◌, length, IfOk, IfErr, All};
+ghost use Rattle.std.specs.Prelude.{◌≡◌, ◌<◌, length, IfOk, IfErr, IsOk, All};
 ghost use Rattle.ogg_page.specs.Page.{HasShape, view};
 ghost use Rattle.ogg_link.specs.Flags.{has_flag as has_flag_in};
 ghost use Rattle.ogg_link.specs.Parts.{parts_of, IsWithin, Joins, lacing_if};
 ghost use Rattle.ogg_link.specs.Walk.{step as step_of, track_step as track_step_of, ended as ended_of, is_of_track as is_of_track_in, is_badly_continued as is_badly_continued_in, is_shared as is_shared_in};
-ghost use Rattle.ogg_link.specs.Walked.{Refuses};
+ghost use Rattle.ogg_link.specs.Walked.{BringsParts, Refuses};
 
 use crate::part::parts;
 use crate::progress::{HEADERS, after_page, is_alone, is_crowded};
@@ -68,6 +68,7 @@ fn track_step(
     ensures joined { IfOk result (λ taken. Joins taken.1.items page.now.lacing.now page.now.body.now) }
     ensures within { IfOk result (λ taken. All (IsWithin (length page.now.body.now)) taken.1.items) }
     ensures fault { IfErr result (λ refusal. Refuses refusal (track_step_of state.now (view page.now))) }
+    ensures needed { result ≡ Err LinkRefusal.NoMem → IsOk (track_step_of state.now (view page.now)) × (0 < length (parts_of state.now.progress.unfinished page.now.lacing.now)) }
 {
     if state.closed {
         return Err(LinkRefusal::Bad(LinkFault::DataAfterEnd));
@@ -110,6 +111,7 @@ pub(crate) fn step(
     ensures joined { IfOk result (λ taken. Joins taken.1.items (lacing_if (is_of_track_in state.now (view page.now)) page.now.lacing.now) page.now.body.now) }
     ensures within { IfOk result (λ taken. All (IsWithin (length page.now.body.now)) taken.1.items) }
     ensures fault { IfErr result (λ refusal. Refuses refusal (step_of state.now (view page.now))) }
+    ensures needed { result ≡ Err LinkRefusal.NoMem → BringsParts state.now (view page.now) }
 {
     let first = has_flag(page, FIRST);
     if first && state.past_first_pages {

@@ -1,5 +1,5 @@
 // Parts of packets on a page (RFC 3533, 6).
-ghost use Rattle.std.specs.Prelude.{◌≡◌, ◌≤◌, ◌<◌, length, IfOk, IfErr, All};
+ghost use Rattle.std.specs.Prelude.{◌≡◌, ◌≤◌, ◌<◌, length, IfOk, IfErr, OnErr, All};
 ghost use Rattle.ogg_page.specs.Page.{HasShape};
 ghost use Rattle.ogg_link.specs.Parts.{parts_of, IsWithin, Joins};
 
@@ -35,6 +35,7 @@ fn laced(alloc: Global, unfinished: bool, lacing: &[u8]) -> Result<Vec<Part>, Li
     requires { length lacing.now ≤ 255 }
     ensures parts { IfOk result (λ parts. parts.items ≡ parts_of unfinished lacing.now) }
     ensures memory { IfErr result (λ refusal. refusal ≡ LinkRefusal.NoMem) }
+    ensures needed { OnErr result (0 < length (parts_of unfinished lacing.now)) }
 {
     let mut parts = Vec::new(alloc);
     let mut first = 0u32;
@@ -76,6 +77,7 @@ pub(crate) fn parts(
     ensures within { IfOk result (λ parts. All (IsWithin (length page.now.body.now)) parts.items) }
     ensures joined { IfOk result (λ parts. Joins parts.items page.now.lacing.now page.now.body.now) }
     ensures memory { IfErr result (λ refusal. refusal ≡ LinkRefusal.NoMem) }
+    ensures needed { OnErr result (0 < length (parts_of unfinished page.now.lacing.now)) }
 {
     laced(alloc, unfinished, page.lacing)
 }

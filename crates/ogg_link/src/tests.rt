@@ -82,7 +82,7 @@ fn judged(rt: &impl Abort, alloc: Global, shift: u8, pages: &[Made]) -> Option<L
 #[test]
 fn each_fault_has_a_smallest_file_and_its_place_in_the_order(rt: HostRuntime) {
     const LAST: Made = (6, 0, 1, 0, &[7], b"\x80theora");
-    const ROWS: [(&str, &[Made], LinkFault); 23] = [
+    const ROWS: [(&str, &[Made], LinkFault); 24] = [
         ("no page", &[], LinkFault::NoTrack),
         ("no first page", &[TABLES], LinkFault::NoTrack),
         (
@@ -155,6 +155,11 @@ fn each_fault_has_a_smallest_file_and_its_place_in_the_order(rt: HostRuntime) {
         (
             "frames since the key frame",
             &[IDENT, TABLES, (0, 1, 1, 2, &[1], &[0])],
+            LinkFault::BadGranule,
+        ),
+        (
+            "a base below 0",
+            &[IDENT, TABLES, (0, 0, 1, 2, &[1, 1], &[0, 0])],
             LinkFault::BadGranule,
         ),
         (

@@ -4,7 +4,7 @@ ghost use Rattle.ogg_page.specs.Page.{HasShape, view};
 ghost use Rattle.ogg_link.specs.Granules.{settled as settled_of};
 ghost use Rattle.ogg_link.specs.Parts.{parts_of, IsWithin, Joins, lacing_if};
 ghost use Rattle.ogg_link.specs.Walk.{start, step as step_of, ended as ended_of, is_of_track as is_of_track_in};
-ghost use Rattle.ogg_link.specs.Walked.{Moves, MovesOrNoMem};
+ghost use Rattle.ogg_link.specs.Walked.{BringsParts, Moves, MovesOrNoMem};
 
 use crate::granules::settled;
 use crate::page::{ended, is_of_track, step};
@@ -58,12 +58,14 @@ impl Walk {
     }
 
     /// The next page of the file. Its faults are looked for in this order: `Chained`, `NoTrack`, and for a page of the track
-    /// `DataAfterEnd`, `MissingPage`, `BadContinued`, `HeadersNotAlone`.
+    /// `DataAfterEnd`, `MissingPage`, `BadContinued`, `HeadersNotAlone`. Only a page without a fault that brings parts takes
+    /// memory. After `NoMem` the walk is as it was.
     pub fn page(&mut self, page: &PageRef) -> Result<Events, LinkRefusal>
         requires { self.old.failed ≡ None → HasShape page.now.lacing.now page.now.body.now }
         ensures step { MovesOrNoMem result self.old self.new (step_of self.old.state (view page.now)) }
         ensures kept { IfSome self.old.failed (λ fault. result ≡ Err (LinkRefusal.Bad fault)) }
         ensures memory { result ≡ Err LinkRefusal.NoMem → self.new ≡ self.old }
+        ensures needed { result ≡ Err LinkRefusal.NoMem → BringsParts self.old.state (view page.now) }
 
         ensures track { IfOk result (λ events. events.track ≡ is_of_track_in self.old.state (view page.now)) }
         ensures new_link { IfOk result (λ events. events.new_link ≡ not self.old.state.begun) }
