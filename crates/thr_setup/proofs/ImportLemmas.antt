@@ -136,28 +136,50 @@ unfolding import_forest
 codes_at_import forest hti e h =
     rw e (ap codes_of (get_or-map-range_with_len (λ n. import_tree (n % 16)) 0 80 hti hti (Token 0) h (omega arith)) ∙ codes_of-import_tree (hti % 16))
 
--- plain codes have all tokens
+-- codes that lead to each token of the list of all lead to all
 some_true : {X : Type 0} (o : Option X) → is_some o ≡ true → IsSome o
 some_true None e = cc
 some_true (Some x) e = search rules
 
-plain-has_all : HasAllTokens plain_codes
-unfolding plain_codes code_of
-plain-has_all token h =
-    let all : All (λ t. IsSome (code_of plain_codes t)) in_order = all_every (λ t. is_some (code_of plain_codes t)) (λ t. IsSome (code_of plain_codes t)) in_order (λ t e. some_true (code_of plain_codes t) e) refl in
+has_all : (codes : Codes) → every (λ t. is_some (code_of codes t)) in_order ≡ true → HasAllTokens codes
+has_all codes each = λ token h.
+    let all : All (λ t. IsSome (code_of codes t)) in_order = all_every (λ t. is_some (code_of codes t)) (λ t. IsSome (code_of codes t)) in_order (λ t e. some_true (code_of codes t) e) each in
     let there : get_or in_order token 0 ≡ token = get_or-range_with_len 0 32 token 0 h ∙ omega arith in
-    subst (λ (t : ℕ). IsSome (code_of plain_codes t)) there (all token 0 (omega (arith, length-range_with_len 0 32)))
+    subst (λ (t : ℕ). IsSome (code_of codes t)) there (all token 0 (omega (arith, length-range_with_len 0 32)))
 
-plain-first : import_codes 0 ≡ plain_codes
+has_all-1 : HasAllTokens (ranked_codes by_rank_1)
+unfolding ranked_codes code_of_rank digits by_rank_1 code_of
+has_all-1 = has_all (ranked_codes by_rank_1) refl
+
+has_all-2 : HasAllTokens (ranked_codes by_rank_2)
+unfolding ranked_codes code_of_rank digits by_rank_2 code_of
+has_all-2 = has_all (ranked_codes by_rank_2) refl
+
+has_all-3 : HasAllTokens (ranked_codes by_rank_3)
+unfolding ranked_codes code_of_rank digits by_rank_3 code_of
+has_all-3 = has_all (ranked_codes by_rank_3) refl
+
+has_all-plain : HasAllTokens plain_codes
+unfolding plain_codes digits code_of
+has_all-plain = has_all plain_codes refl
+
+-- the codes of a number lead to all tokens
+import-has_all : (number : ℕ) → HasAllTokens (import_codes number)
 unfolding import_codes
-plain-first = refl
+import-has_all number = go (nat_eq number 1) (nat_eq number 2) (nat_eq number 3)
+  where
+    go : (a b c : Bool) → HasAllTokens (cond a (ranked_codes by_rank_1) (cond b (ranked_codes by_rank_2) (cond c (ranked_codes by_rank_3) plain_codes)))
+    go true b c = has_all-1
+    go false true c = has_all-2
+    go false false true = has_all-3
+    go false false false = has_all-plain
 
--- the trees of number 0 are a full row
-pub full_row_import : (forest : List CodeTree) → forest ≡ import_forest → IsFullRow forest 0
-full_row_import forest e = λ group g.
-    let first : (16 * group + 0) % 16 ≡ 0 = omega arith in
-    let codes : codes_at forest (16 * group + 0) ≡ plain_codes = codes_at_import forest (16 * group + 0) e (omega arith) ∙ ap import_codes first ∙ plain-first in
-    rw codes plain-has_all
+-- the trees of each number are a full row
+pub full_row_import : (forest : List CodeTree) (number : ℕ) → forest ≡ import_forest → number < 16 → IsFullRow forest number
+full_row_import forest number e h = λ group g.
+    let same : (16 * group + number) % 16 ≡ number = omega arith in
+    let codes : codes_at forest (16 * group + number) ≡ import_codes number = codes_at_import forest (16 * group + number) e (omega arith) ∙ ap import_codes same in
+    rw codes (import-has_all number)
 
 -- one tree more
 pub more_trees : (trees new : List Tree) (tree : Tree) (n : ℕ) → new ≡ trees ++ tree ∷ [] → code_tree tree ≡ import_tree (n % 16)

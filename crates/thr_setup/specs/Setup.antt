@@ -1,5 +1,5 @@
 -- The setup header: which packets are one, what it says, and which bits are written for it (Theora I, 6.4.5).
-use Rattle.std.specs.Prelude.{ℕ, Bool, List, ◌∷◌, ◌++◌, length, drop, Result, Ok, Err, codes, nat_eq, if◌then◌else◌}
+use Rattle.std.specs.Prelude.{◌≡◌, ℕ, Bool, true, List, ◌∷◌, ◌++◌, length, drop, Result, Ok, Err, IsOk, codes, nat_eq, if◌then◌else◌}
 use Rattle.std.specs.List.{starts_with}
 use Rattle.vid_base.specs.declared.fault.PacketFault.{PacketFault}
 use Rattle.vid_base.specs.declared.fault.PacketFault.TheVariants.{NotSetup}
@@ -39,6 +39,10 @@ setup_of bytes =
     if starts_with nat_eq bytes setup_name
     then (fields_of (bits_of (drop 7 bytes)) >>= (λ fields. Ok fields.0))
     else Err NotSetup
+
+-- a packet has the name, and behind it whole limits: no memory is taken before
+abbrev pub HasLimits : List ℕ → Type 0
+HasLimits bytes = (starts_with nat_eq bytes setup_name ≡ true) × IsOk (limits_of (bits_of (drop 7 bytes)))
 
 -- the fields as they are written
 unfoldable pub fields_bits : Contents → List Bool

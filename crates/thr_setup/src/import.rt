@@ -85,7 +85,7 @@ fn import_ramps(alloc: Global) -> Result<Ramps, NoMem>
 pub fn import_setup(alloc: Global) -> Result<Setup, NoMem>
     ensures value { IfOk result (λ setup. contents setup ≡ imported) }
     ensures codes { IfOk result (λ setup. (hti : ℕ) → hti < 80 → codes_at setup.forest hti ≡ import_codes (hti % 16)) }
-    ensures full { IfOk result (λ setup. IsFullRow setup.forest 0) }
+    ensures full { IfOk result (λ setup. (number : ℕ) → number < 16 → IsFullRow setup.forest number) }
 {
     Ok(Setup {
         limits: import_limits(),

@@ -1,7 +1,8 @@
 // Reading a setup header (Theora I, 6.4.5).
-ghost use Rattle.std.specs.Prelude.{◌≡◌, Ok, IfOk, IfErr};
+ghost use Rattle.std.specs.Prelude.{◌≡◌, Ok, IsOk, IfOk, IfErr};
+ghost use Rattle.thr_quant.specs.Limits.{limits_of};
 ghost use Rattle.vid_base.specs.Reading.{GivesOrNoMem, Refuses};
-ghost use Rattle.thr_setup.specs.Setup.{contents, fields_of, setup_of};
+ghost use Rattle.thr_setup.specs.Setup.{HasLimits, contents, fields_of, setup_of};
 
 use std::alloc::Global;
 use thr_huff::{Forest, read_forest};
@@ -23,6 +24,7 @@ pub struct Setup {
 #[tactic(auto, unfolding(crate::specs::Setup::fields_of))]
 fn read_fields(alloc: Global, r: &mut BitReader) -> Result<Setup, Refusal>
     ensures value { GivesOrNoMem contents result r.new.left (fields_of r.old.left) }
+    ensures needed { result ≡ Err Refusal.NoMem → IsOk (limits_of r.old.left) }
 {
     let limits = read_limits(r)?;
     let ramps = read_ramps(alloc, r)?;
@@ -36,11 +38,12 @@ fn read_fields(alloc: Global, r: &mut BitReader) -> Result<Setup, Refusal>
 
 /// What a setup header says, or its first fault in reading order (Theora I, 6.4.5): `NotSetup`, where the first 7 bytes are
 /// not its; `Ended`; `Matrices`, `MatrixIndex` and `Ramp` of the quantisers; `TreeDeep` and `TreeLeaves` of the trees. Bits
-/// and bytes behind the last tree do not count.
+/// and bytes behind the last tree do not count. No memory is taken before the name and the limits are read.
 #[tactic(auto, unfolding(crate::specs::Setup::setup_of))]
 pub fn read_setup(alloc: Global, bytes: &[u8]) -> Result<Setup, Refusal>
     ensures value { IfOk result (λ setup. setup_of bytes.now ≡ Ok (contents setup)) }
     ensures fault { IfErr result (λ refusal. Refuses refusal (setup_of bytes.now)) }
+    ensures needed { result ≡ Err Refusal.NoMem → HasLimits bytes.now }
 {
     if !bytes.starts_with(&SETUP_NAME) {
         return Err(Refusal::Bad(PacketFault::NotSetup));

@@ -62,6 +62,21 @@ fn a_setup_that_was_read_is_written_as_the_same_bytes(rt: HostRuntime) {
 }
 
 #[test]
+fn a_setup_is_written_behind_the_bytes_that_are_there(rt: HostRuntime) {
+    let packet = import_packet(&rt, rt.alloc());
+    let Ok(setup) = import_setup(rt.alloc()) else {
+        panic!(&rt; "there is no setup")
+    };
+    let mut out = Vec::new(rt.alloc());
+    assert_eq!(rt; out.push(7).is_ok(), true);
+    for times in 0..3 {
+        assert_eq!(rt; write_setup(&setup, &mut out), Ok(()), "{times} before it");
+    }
+    assert_eq!(rt; out.len(), 1 + 3 * 2490);
+    assert!(rt; out.ends_with(&packet));
+}
+
+#[test]
 fn a_packet_that_is_cut_is_ended_or_no_setup(rt: HostRuntime) {
     let packet = import_packet(&rt, rt.alloc());
     for n in 0..packet.len() {
@@ -99,6 +114,30 @@ fn the_first_fault_of_a_setup_is_answered(rt: HostRuntime) {
     let comment = [0x81, 0x74, 0x68, 0x65, 0x6f, 0x72, 0x61, 0xff, 0xff];
     let refusal = read_setup(rt.alloc(), &comment).err();
     assert_eq!(rt; refusal, Some(Refusal::Bad(PacketFault::NotSetup)));
+}
+
+// By rank, two codes stand behind 0, two behind 10, four behind 110, eight behind 1110 and sixteen behind 1111.
+#[test]
+fn tokens_have_the_codes_of_their_ranks_in_each_group(rt: HostRuntime) {
+    let Ok(setup) = import_setup(rt.alloc()) else {
+        panic!(&rt; "there is no setup")
+    };
+    let rows = [
+        ("token 5 of number 0", 0, 5, 0b00101, 5),
+        ("rank 7 of number 1", 1, 23, 0b11011, 5),
+        ("rank 8 of number 1", 1, 4, 0b1110000, 7),
+        ("rank 0 of number 2", 2, 9, 0b00, 2),
+        ("rank 2 of number 3 in group 1", 19, 0, 0b100, 3),
+        ("rank 31 of number 1 in group 4", 65, 31, 0b11111111, 8),
+        ("token 5 of number 15 in group 4", 79, 5, 0b00101, 5),
+    ];
+    for (name, hti, token, bits, len) in rows {
+        assert!(rt; hti < 80 && token < 32);
+        let Some(code) = setup.forest.code(hti, token) else {
+            panic!(&rt; "{name} has no code")
+        };
+        assert_eq!(rt; (code.bits, code.len), (bits, len), "{name}");
+    }
 }
 
 #[test]
