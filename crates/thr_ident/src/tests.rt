@@ -27,6 +27,32 @@ const SMALLEST: Ident = Ident {
     pf: 0,
 };
 
+// A header whose fields all differ, and what it says.
+const VARIED: [u8; 42] = [
+    0x80, 0x74, 0x68, 0x65, 0x6F, 0x72, 0x61, 0x03, 0x02, 0x05, 0x01, 0x2C, 0x00, 0xC8, 0x00, 0x12,
+    0x5C, 0x00, 0x0C, 0x1C, 0x32, 0x3C, 0x00, 0x00, 0x75, 0x30, 0x00, 0x00, 0x03, 0xE9, 0x00, 0x00,
+    0x0C, 0x00, 0x00, 0x0B, 0x02, 0x0F, 0x42, 0x40, 0xA4, 0xF8,
+];
+
+const VARIED_SAYS: Ident = Ident {
+    vrev: 5,
+    fmbw: 300,
+    fmbh: 200,
+    picw: 4700,
+    pich: 3100,
+    picx: 50,
+    picy: 60,
+    frn: 30_000,
+    frd: 1001,
+    parn: 12,
+    pard: 11,
+    cs: 2,
+    nombr: 1_000_000,
+    qual: 41,
+    shift: 7,
+    pf: 3,
+};
+
 // Bytes of `HEADER` that are others, from a place on, and the fault that then comes first.
 const FIELDS: [(&str, usize, &[u8], Option<PacketFault>); 45] = [
     ("type 0x81", 0, &[0x81], Some(PacketFault::NotIdent)),
@@ -177,6 +203,16 @@ fn the_header_of_the_smallest_frame_has_these_42_bytes(rt: HostRuntime) {
     assert_eq!(rt; read_ident(&HEADER), Ok(SMALLEST));
     let shape = SMALLEST.shape();
     assert_eq!(rt; (shape.fmbw, shape.fmbh, shape.pf), (1, 1, 0));
+}
+
+#[test]
+fn each_field_stands_at_its_own_place(rt: HostRuntime) {
+    let mut out = Vec::new(rt.alloc());
+    assert_eq!(rt; write_ident(&VARIED_SAYS, &mut out), Ok(()));
+    assert!(rt; out.as_slice() == VARIED.as_slice());
+    assert_eq!(rt; read_ident(&VARIED), Ok(VARIED_SAYS));
+    let shape = VARIED_SAYS.shape();
+    assert_eq!(rt; (shape.fmbw, shape.fmbh, shape.pf), (300, 200, 3));
 }
 
 #[test]

@@ -1,6 +1,6 @@
 // Writing an identification header (Theora I, 6.1 and 6.2).
-ghost use Rattle.std.specs.Prelude.{◌≡◌, ℕ, ◌+◌, ◌*◌, ◌^◌, ◌≤◌, ◌++◌, List, OnOk, OnErr, length, vec_len, vec_capacity};
-ghost use Rattle.thr_ident.specs.Header.{header_bytes};
+ghost use Rattle.std.specs.Prelude.{◌≡◌, ℕ, ◌+◌, ◌*◌, ◌^◌, ◌<◌, ◌≤◌, ◌++◌, List, OnOk, OnErr, length, vec_len, vec_capacity};
+ghost use Rattle.thr_ident.specs.Header.{header_bytes, ident_length};
 ghost use Rattle.thr_ident.specs.Ident.{ident_of, header_of};
 
 use crate::Ident;
@@ -24,10 +24,12 @@ fn last_fields(ident: &Ident) -> u16
     (u16::from(ident.qual) << 10) + (u16::from(ident.shift) << 5) + (u16::from(ident.pf) << 3)
 }
 
-/// Appends the 42 bytes of the header that says this. After `NoMem` the bytes are those that were there.
+/// Appends the 42 bytes of the header that says this. After `NoMem`, which comes only where there is no room for them, the
+/// bytes are those that were there.
 pub fn write_ident(ident: &Ident, out: &mut Vec<u8>) -> Result<(), NoMem>
     ensures written { OnOk result (out.new.items ≡ out.old.items ++ header_bytes (header_of ident.now)) }
     ensures memory { OnErr result (out.new.items ≡ out.old.items) }
+    ensures full { OnErr result (vec_capacity out.old < vec_len out.old + ident_length) }
     ensures reads_back { (rest : List ℕ) → ident_of (header_bytes (header_of ident.now) ++ rest) ≡ Ok (header_of ident.now) }
 {
     out.try_reserve(IDENT_BYTES)?;
