@@ -116,6 +116,28 @@ fn macro_blocks_turn_clockwise_and_name_their_blocks_from_the_lower_left(
     Ok(())
 }
 
+// Of the last superblock, what the frame has is walked through in the order of the curve.
+#[test]
+fn the_largest_frames_end_with_the_last_block_of_their_last_superblock(
+    rt: HostRuntime,
+) -> Result<(), Fail> {
+    let rows = [
+        (512, 256, 1_572_864, 1023, 508),
+        (256, 512, 1_572_864, 511, 1020),
+        (65535, 2, 1_572_840, 131_069, 2),
+        (2, 65535, 1_572_840, 3, 131_068),
+    ];
+    for (fmbw, fmbh, blocks, col, row) in rows {
+        let geom = geom(&rt, rt.alloc(), fmbw, fmbh, 3);
+        assert_eq!(rt; geom.blocks(), blocks);
+        if 0 < geom.blocks() {
+            let last = geom.at(geom.blocks() - 1);
+            assert_eq!(rt; last, Block { pli: 2, col, row }, "{fmbw} by {fmbh}");
+        }
+    }
+    Ok(())
+}
+
 #[test]
 fn each_place_leads_to_its_block_and_back(rt: HostRuntime) -> Result<(), Fail> {
     for (fmbw, fmbh) in SIZES {
