@@ -296,7 +296,7 @@ fn a_call_that_fails_is_told(rt: HostRuntime) {
     );
 }
 
-// A desk with one input, of which nothing is told but its length. No call gives bytes.
+// A desk with one input and one output, of which nothing is told but the length of the input. No call gives bytes.
 #[derive(Drop)]
 struct LongInput {
     size: u64,
@@ -312,7 +312,7 @@ impl Desk for LongInput {
       write_faults = desk.write_faults;
       asked = desk.asked;
       found = 1;
-      made = 0;
+      made = 1;
     }) };
 
     ghost use Rattle.std.proofs.Common.{rules};
