@@ -150,6 +150,7 @@ fn limits_and_entries_of_the_setup_of_our_own_streams(rt: HostRuntime) {
     let rows = [
         ("DC at 49", 0, 49, 0, 32),
         ("AC at 49", 0, 49, 1, 96),
+        ("the least of intra AC at 63", 0, 63, 1, 8),
         ("the least of inter AC at 63", 1, 63, 1, 16),
         ("DC at 0", 0, 0, 0, 124),
         ("the last at 0", 0, 0, 63, 1480),
