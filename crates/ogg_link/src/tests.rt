@@ -82,12 +82,17 @@ fn judged(rt: &impl Abort, alloc: Global, shift: u8, pages: &[Made]) -> Option<L
 #[test]
 fn each_fault_has_a_smallest_file_and_its_place_in_the_order(rt: HostRuntime) {
     const LAST: Made = (6, 0, 1, 0, &[7], b"\x80theora");
-    const ROWS: [(&str, &[Made], LinkFault); 24] = [
+    const ROWS: [(&str, &[Made], LinkFault); 26] = [
         ("no page", &[], LinkFault::NoTrack),
         ("no first page", &[TABLES], LinkFault::NoTrack),
         (
             "another stream",
             &[(2, 0, 1, 0, &[7], b"\x81theora")],
+            LinkFault::NoTrack,
+        ),
+        (
+            "another seventh byte",
+            &[(2, 0, 1, 0, &[7], b"\x80theorb")],
             LinkFault::NoTrack,
         ),
         (
@@ -149,6 +154,16 @@ fn each_fault_has_a_smallest_file_and_its_place_in_the_order(rt: HostRuntime) {
         (
             "a page behind the last",
             &[LAST, TABLES],
+            LinkFault::DataAfterEnd,
+        ),
+        (
+            "a page behind an empty last one",
+            &[
+                IDENT,
+                TABLES,
+                (4, 0, 1, 2, &[], &[]),
+                (0, 0, 1, 3, &[1], &[0]),
+            ],
             LinkFault::DataAfterEnd,
         ),
         ("a second link", &[IDENT, TABLES, IDENT], LinkFault::Chained),
