@@ -1,0 +1,9 @@
+pub mod TreeLemmas
+pub mod StandingLemmas
+pub mod PlaceLemmas
+pub mod SourceLemmas
+pub mod WritingLemmas
+pub mod AddingLemmas
+pub mod ReadingLemmas
+pub mod TellingLemmas
+pub mod TokenisedLemmas

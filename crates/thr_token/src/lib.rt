@@ -1,0 +1,25 @@
+//! DCT coefficients of a frame, coded as tokens (Theora I, 7.7).
+#![tactic(auto)]
+
+mod adding;
+mod coeffs;
+mod meaning;
+mod places;
+mod reading;
+mod run;
+mod spelling;
+mod token;
+mod tokenising;
+mod trees;
+mod writing;
+
+pub use coeffs::Coeffs;
+pub use reading::{read_tokens, read_tokens_in};
+pub use token::{Tables, Token};
+pub use tokenising::tokenise;
+pub use writing::write_tokens;
+
+#[cfg(test)]
+mod tests;
+#[cfg(test)]
+mod token_tests;

@@ -1,0 +1,396 @@
+use crate::*;
+use std::alloc::Global;
+use std::process::Abort;
+use std::test::Fail;
+use thr_huff::{Forest, read_forest};
+use vid_base::{BitReader, BitWriter, NoMem, PacketFault, Refusal, Shape};
+use vid_geom::Geom;
+
+/// A number and how many bits it has.
+type Field = (u32, u32);
+
+/// A value that is not 0: its block, its place, and the value.
+type Value = (usize, usize, i16);
+
+// The bytes of fields one behind the other, each of at most 12 bits.
+fn bytes_of(alloc: Global, fields: &[Field]) -> Result<Vec<u8>, NoMem> {
+    let mut w = BitWriter::new(alloc);
+    for (number, width) in fields {
+        let width = (*width).min(12);
+        w.put(*number % (1 << width), width)?;
+    }
+    Ok(w.finish())
+}
+
+// The bits of a tree in which token t has the 5-bit code that is less than t by a shift.
+fn put_tree(w: &mut BitWriter, shift: u32) -> Result<(), NoMem> {
+    for code in 0..32u32 {
+        let levels = if code == 0 { 5 } else { code.trailing_zeros() };
+        w.put(0, levels)?;
+        w.put(1, 1)?;
+        w.put(code.wrapping_add(shift) % 32, 5)?;
+    }
+    Ok(())
+}
+
+// Trees of all tokens with codes of 5 bits. Under number 0 a code is the token, under number 1 it is one less, and under
+// number 2 it is less by the group; the others are as number 0.
+fn forest(alloc: Global) -> Result<Forest, Fail> {
+    let mut w = BitWriter::new(alloc);
+    for hti in 0..80u32 {
+        let shift = match hti % 16 {
+            1 => 1,
+            2 => hti / 16,
+            _ => 0,
+        };
+        put_tree(&mut w, shift)?;
+    }
+    let bytes = w.finish();
+    Ok(read_forest(alloc, &mut BitReader::new(&bytes))?)
+}
+
+// How many bits are left, of at most 64.
+fn left(r: &mut BitReader) -> usize {
+    let mut count = 0usize;
+    for _ in 0..64 {
+        if r.bit().is_ok() {
+            count = count.saturating_add(1);
+        }
+    }
+    count
+}
+
+// The coefficients of a macro block in 4:2:0, whose six blocks are coded but for those from one on, and how many bits are
+// then left; or the fault. Both calls have to answer alike.
+fn read(
+    rt: &impl Abort,
+    alloc: Global,
+    coded: usize,
+    r: &mut BitReader,
+    again: &mut BitReader,
+) -> Result<Result<(Coeffs, usize), PacketFault>, Fail> {
+    let forest = forest(alloc)?;
+    let shape = Shape::new(1, 1, 0).expect(rt, "no shape");
+    let geom = Geom::new(alloc, shape).expect(rt, "no memory");
+    let blocks = geom.blocks() as usize;
+    let mut flags = vec![in alloc; true; blocks]?;
+    for b in coded..flags.len() {
+        flags[b] = false;
+    }
+    let mut coeffs = Coeffs::new(alloc);
+    let answer = read_tokens(r, &forest, &geom, &flags, &mut coeffs);
+    let mut values = vec![in alloc; [7i16; 64]; blocks]?;
+    let mut counts = vec![in alloc; 7u8; blocks]?;
+    let mut work = vec![in alloc; 7u8; blocks]?;
+    if let Err(fault) = read_tokens_in(
+        again,
+        &forest,
+        &geom,
+        &flags,
+        &mut values,
+        &mut counts,
+        &mut work,
+    ) {
+        assert_eq!(rt; answer, Err(Refusal::Bad(fault)));
+        assert!(rt; coeffs.values.is_empty());
+        assert!(rt; coeffs.counts.is_empty());
+        return Ok(Err(fault));
+    }
+    assert_eq!(rt; answer, Ok(()));
+    assert!(rt; values.as_slice() == coeffs.values.as_slice());
+    assert!(rt; counts.as_slice() == coeffs.counts.as_slice());
+    let rest = left(r);
+    assert_eq!(rt; left(again), rest);
+    Ok(Ok((coeffs, rest)))
+}
+
+// The same of these bytes.
+fn read_bytes(
+    rt: &impl Abort,
+    alloc: Global,
+    coded: usize,
+    bytes: &[u8],
+) -> Result<Result<(Coeffs, usize), PacketFault>, Fail> {
+    read(
+        rt,
+        alloc,
+        coded,
+        &mut BitReader::new(bytes),
+        &mut BitReader::new(bytes),
+    )
+}
+
+// Whether the values are these and all others 0.
+fn holds(coeffs: &Coeffs, values: &[Value]) -> bool {
+    for (b, block) in coeffs.values.iter().enumerate() {
+        for (place, value) in block.iter().enumerate() {
+            let want = values
+                .iter()
+                .find(|known| known.0 == b && known.1 == place)
+                .map_or(0, |known| known.2);
+            if *value != want {
+                return false;
+            }
+        }
+    }
+    true
+}
+
+/// Packets whose tokens begin at bit 12, with the values, the count of the first block, and the bits left.
+const WORKED: [(&[u8], &[Value], u8, usize); 2] = [
+    (&[0x1e, 0x00, 0x01, 0xc0, 0x00], &[], 0, 5),
+    (&[0x3f, 0x00, 0x04, 0x8d, 0x00, 0x00], &[(0, 0, 1)], 1, 3),
+];
+
+// The coefficients of a packet whose tokens begin at bit 12.
+fn read_packet(
+    rt: &impl Abort,
+    alloc: Global,
+    bytes: &[u8],
+) -> Result<Result<(Coeffs, usize), PacketFault>, Fail> {
+    let mut r = BitReader::new(bytes);
+    let mut again = BitReader::new(bytes);
+    r.take(12)?;
+    again.take(12)?;
+    read(rt, alloc, 6, &mut r, &mut again)
+}
+
+#[test]
+fn worked_packets_have_these_coefficients_and_end_where_they_are_cut(
+    rt: HostRuntime,
+) -> Result<(), Fail> {
+    for (bytes, values, count, rest) in WORKED {
+        let (coeffs, left) = read_packet(&rt, rt.alloc(), bytes)?.expect(&rt, "a fault");
+        assert!(rt; holds(&coeffs, values));
+        assert!(rt; coeffs.counts.as_slice() == [count, 0, 0, 0, 0, 0].as_slice());
+        assert_eq!(rt; left, rest);
+        let cut = read_packet(&rt, rt.alloc(), &bytes[..bytes.len() - 1])?;
+        assert!(rt; cut.err() == Some(PacketFault::Ended));
+    }
+    Ok(())
+}
+
+/// A token, its further bits, and how many they are.
+type Token = (u32, u32, u32);
+
+// The packet of the tokens of one block under tables of number 0: the second pair of numbers stands behind the first token.
+fn alone(alloc: Global, tokens: &[Token]) -> Result<Vec<u8>, NoMem> {
+    let mut fields = Vec::new(alloc);
+    fields.push((0, 8))?;
+    for (at, (token, extra, width)) in tokens.iter().enumerate() {
+        fields.push((*token, 5))?;
+        fields.push((*extra, *width))?;
+        if at == 0 {
+            fields.push((0, 8))?;
+        }
+    }
+    bytes_of(alloc, &fields)
+}
+
+/// Tokens with the zeros and the value that they say.
+const VALUES: [(Token, u8, i16); 22] = [
+    ((9, 0, 0), 0, 1),
+    ((10, 0, 0), 0, -1),
+    ((11, 0, 0), 0, 2),
+    ((12, 0, 0), 0, -2),
+    ((13, 0, 1), 0, 3),
+    ((14, 1, 1), 0, -4),
+    ((15, 0, 1), 0, 5),
+    ((16, 1, 1), 0, -6),
+    ((17, 1, 2), 0, 8),
+    ((18, 4, 3), 0, -9),
+    ((19, 7, 4), 0, 20),
+    ((20, 31, 5), 0, -36),
+    ((21, 0, 6), 0, 37),
+    ((22, 511, 10), 0, 580),
+    ((22, 1_023, 10), 0, -580),
+    ((23, 1, 1), 1, -1),
+    ((27, 0, 1), 5, 1),
+    ((28, 5, 3), 7, -1),
+    ((29, 7, 4), 17, 1),
+    ((30, 1, 2), 1, 3),
+    ((31, 1, 3), 3, 2),
+    ((31, 6, 3), 2, -3),
+];
+
+#[test]
+fn a_token_of_a_value_stands_behind_its_zeros(rt: HostRuntime) -> Result<(), Fail> {
+    for (token, zeros, value) in VALUES {
+        let bytes = alone(rt.alloc(), &[token, (0, 0, 0)])?;
+        let (coeffs, left) = read_bytes(&rt, rt.alloc(), 1, &bytes)?.expect(&rt, "a fault");
+        assert!(rt;
+            holds(&coeffs, &[(0, usize::from(zeros), value)]),
+            "{zeros} zeros and {value}"
+        );
+        assert!(rt;
+            coeffs.counts.first() == Some(&zeros.saturating_add(1)),
+            "{zeros} zeros and {value}"
+        );
+        assert!(rt; left < 8, "{zeros} zeros and {value}");
+    }
+    Ok(())
+}
+
+/// Tokens of one block that leave it at this count, with its last value that is not 0.
+const ENDS: [(&[Token], &[Value], u8); 10] = [
+    (&[(0, 0, 0)], &[], 0),
+    (&[(5, 15, 4)], &[], 0),
+    (&[(6, 0, 12)], &[], 0),
+    (&[(6, 4_095, 12)], &[], 0),
+    (&[(8, 63, 6)], &[], 0),
+    (&[(8, 62, 6), (7, 0, 3)], &[], 63),
+    (&[(7, 7, 3), (9, 0, 0), (0, 0, 0)], &[(0, 8, 1)], 9),
+    (&[(8, 62, 6), (10, 0, 0)], &[(0, 63, -1)], 63),
+    (&[(8, 61, 6), (30, 0, 2)], &[(0, 63, 2)], 62),
+    (&[(12, 0, 0), (8, 62, 6)], &[(0, 0, -2)], 1),
+];
+
+/// Tokens of one block that pass its last place, or whose bits end.
+const FAULTS: [(&[Token], PacketFault); 7] = [
+    (&[(9, 0, 0), (8, 63, 6)], PacketFault::TokenPastEnd),
+    (&[(8, 62, 6), (7, 1, 3)], PacketFault::TokenPastEnd),
+    (&[(8, 62, 6), (23, 0, 1)], PacketFault::TokenPastEnd),
+    (&[(8, 60, 6), (31, 1, 3)], PacketFault::TokenPastEnd),
+    (&[(8, 62, 6), (29, 0, 0)], PacketFault::Ended),
+    (&[(9, 0, 0), (22, 0, 5)], PacketFault::Ended),
+    (&[], PacketFault::Ended),
+];
+
+#[test]
+fn the_count_is_where_the_last_token_stood_and_zeros_may_reach_the_end(
+    rt: HostRuntime,
+) -> Result<(), Fail> {
+    for (tokens, values, count) in ENDS {
+        let bytes = alone(rt.alloc(), tokens)?;
+        let (coeffs, left) = read_bytes(&rt, rt.alloc(), 1, &bytes)?.expect(&rt, "a fault");
+        assert!(rt; holds(&coeffs, values), "count {count}");
+        assert!(rt; coeffs.counts.as_slice() == [count, 0, 0, 0, 0, 0].as_slice());
+        assert!(rt; left < 8, "count {count}");
+    }
+    for (tokens, fault) in FAULTS {
+        let bytes = alone(rt.alloc(), tokens)?;
+        let answer = read_bytes(&rt, rt.alloc(), 1, &bytes)?;
+        assert!(rt; answer.err() == Some(fault), "{} tokens", tokens.len());
+    }
+    Ok(())
+}
+
+/// Fields of the tokens of a frame, how many of its blocks are coded, the values that are not 0, and the counts.
+const FRAMES: [(&[Field], usize, &[Value], [u8; 6]); 5] = [
+    // A run across two places, and a run of all that are left.
+    (
+        &[
+            (0, 8),
+            (9, 5),
+            (10, 5),
+            (9, 5),
+            (9, 5),
+            (9, 5),
+            (2, 5),
+            (0, 8),
+            (6, 5),
+            (0, 12),
+        ],
+        6,
+        &[(0, 0, 1), (1, 0, -1), (2, 0, 1), (3, 0, 1), (4, 0, 1)],
+        [1, 1, 1, 1, 1, 0],
+    ),
+    // A run of all counts a block that has come further.
+    (
+        &[(0, 8), (9, 5), (6, 5), (0, 12), (0, 8)],
+        6,
+        &[(0, 0, 1)],
+        [1, 0, 0, 0, 0, 0],
+    ),
+    // Chroma takes the second number.
+    (
+        &[
+            (0, 4),
+            (1, 4),
+            (9, 5),
+            (9, 5),
+            (9, 5),
+            (9, 5),
+            (9, 5),
+            (9, 5),
+            (1, 4),
+            (0, 4),
+            (4, 5),
+            (0, 4),
+        ],
+        6,
+        &[
+            (0, 0, 1),
+            (1, 0, 1),
+            (2, 0, 1),
+            (3, 0, 1),
+            (4, 0, -1),
+            (5, 0, -1),
+        ],
+        [1, 1, 1, 1, 1, 1],
+    ),
+    // A block that its zeros have ended is not counted.
+    (
+        &[(0, 8), (8, 5), (63, 6), (3, 5), (1, 2), (0, 8)],
+        6,
+        &[],
+        [0; 6],
+    ),
+    // A value at the first and the last place of each group, whose trees differ.
+    (
+        &[
+            (2, 4),
+            (0, 4),
+            (9, 5),
+            (2, 4),
+            (0, 4),
+            (8, 5),
+            (6, 5),
+            (2, 3),
+            (8, 5),
+            (7, 5),
+            (5, 5),
+            (6, 3),
+            (7, 5),
+            (6, 5),
+            (5, 5),
+            (10, 6),
+            (6, 5),
+            (5, 5),
+            (4, 5),
+            (33, 6),
+            (5, 5),
+        ],
+        1,
+        &[
+            (0, 0, 1),
+            (0, 1, 1),
+            (0, 5, 1),
+            (0, 6, 1),
+            (0, 14, 1),
+            (0, 15, 1),
+            (0, 27, 1),
+            (0, 28, 1),
+            (0, 63, 1),
+        ],
+        [63, 0, 0, 0, 0, 0],
+    ),
+];
+
+#[test]
+fn runs_go_on_across_blocks_and_places_and_trees_go_by_plane_and_group(
+    rt: HostRuntime,
+) -> Result<(), Fail> {
+    for (fields, coded, values, counts) in FRAMES {
+        let bytes = bytes_of(rt.alloc(), fields)?;
+        let (coeffs, left) = read_bytes(&rt, rt.alloc(), coded, &bytes)?.expect(&rt, "a fault");
+        assert!(rt; holds(&coeffs, values), "{} fields", fields.len());
+        assert!(rt;
+            coeffs.counts.as_slice() == counts.as_slice(),
+            "{} fields",
+            fields.len()
+        );
+        assert!(rt; left < 8, "{} fields", fields.len());
+    }
+    Ok(())
+}
