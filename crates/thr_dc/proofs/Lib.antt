@@ -1,0 +1,6 @@
+pub mod PredictorLemmas
+pub mod PlaneLemmas
+pub mod PredictionLemmas
+pub mod WalkLemmas
+pub mod FrameLemmas
+pub mod LawLemmas

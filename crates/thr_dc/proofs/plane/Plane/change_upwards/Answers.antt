@@ -1,0 +1,42 @@
+use Rattle.std.proofs.Common.{[], None, get_or, take, arith}
+use Rattle.std.proofs.lemmas.List.{take_all}
+use Rattle.vid_geom.specs.CodedOrder.{block_columns}
+use Rattle.thr_dc.specs.Changes.{value_by}
+use Rattle.thr_dc.specs.Prediction.{by_new, changed}
+use Rattle.thr_dc.specs.Walks.{blocks_of}
+use Rattle.thr_dc.proofs.PlaneLemmas.{plane_long}
+use Rattle.thr_dc.proofs.WalkLemmas.{ahead_more, by_new_all, by_new_more, changes_in_more, short_more}
+use Rattle.thr_dc.proofs.plane.Plane.change_upwards.Goals as goal
+
+pub places-preserved : goal.places-preserved
+places-preserved c =
+    let plane = c.args.self.now in
+    let s = plane.geom.now in
+    let w = block_columns s plane.pli in
+    let now = blocks_of plane c.places.values in
+    let long = plane_long s plane.flags.now plane.kinds.now c.places.values plane.pli in
+    let old = blocks_of plane c.args.values.now in
+    let old_long = plane_long s plane.flags.now plane.kinds.now c.args.values.now plane.pli in
+    let all = by_new (value_by c.args.change) w [] old in
+    record {
+      blocks = by_new_more (value_by c.args.change) w c.places.place now (blocks_of plane c.change_block.new.values) all (omega arith) c.change_block.ensures.blocks c.places.invariant.blocks;
+      ahead = ahead_more now (blocks_of plane c.change_block.new.values) old c.places.place (changed (value_by c.args.change) w (take c.places.place now) (get_or now c.places.place None)) c.change_block.ensures.blocks c.places.invariant.ahead;
+      short = short_more now old c.places.place (omega arith) c.places.invariant.ahead c.change_block.ensures.short c.places.invariant.short;
+      rest = changes_in_more s plane.flags.now plane.kinds.now plane.pli c.args.values.now c.places.values c.change_block.new.values c.places.invariant.rest c.change_block.ensures.rest;
+    }
+
+pub returns : goal.returns
+returns c =
+    let plane = c.args.self.now in
+    let w = block_columns plane.geom.now plane.pli in
+    let now = blocks_of plane c.places.values in
+    let long = plane_long plane.geom.now plane.flags.now plane.kinds.now c.places.values plane.pli in
+    let old = blocks_of plane c.args.values.now in
+    let old_long = plane_long plane.geom.now plane.flags.now plane.kinds.now c.args.values.now plane.pli in
+    let all = by_new (value_by c.args.change) w [] old in
+    let all_taken = take_all c.places.place old (omega arith) in
+    record {
+      blocks = by_new_all (value_by c.args.change) w c.places.place now all (omega arith) c.places.invariant.blocks;
+      short = rw all_taken at c.places.invariant.short;
+      rest = c.places.invariant.rest;
+    }

@@ -1,0 +1,6 @@
+pub mod Predictor
+pub mod Prediction
+pub mod Frames
+pub mod Planes
+pub mod Walks
+pub mod Changes

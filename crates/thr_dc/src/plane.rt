@@ -1,0 +1,18 @@
+// The blocks of a plane (Theora I, 7.8). The methods stand elsewhere, since the definitions that their contracts cite speak
+// of this struct.
+ghost use Rattle.thr_dc.specs.Planes.{IsPlane};
+
+use vid_geom::Geom;
+
+/// A plane, and what is known of its blocks besides their values.
+#[derive(Clone, Copy)]
+pub(crate) struct Plane<'a> {
+    pub(crate) geom: &'a Geom,
+    pub(crate) flags: &'a [bool],
+    pub(crate) kinds: &'a [u8],
+    pub(crate) pli: u8,
+    /// How many blocks stand in a row.
+    pub(crate) columns: u32,
+    pub(crate) blocks: u32,
+    ghost is_plane: { IsPlane geom.now flags.now kinds.now pli columns blocks },
+}

@@ -1,0 +1,147 @@
+// The DC predictor of a block of a plane (Theora I, 7.8.1).
+ghost use Rattle.std.specs.Prelude.{◌≡◌, ◌<◌, ◌≤◌, IfSome, None, get_or, length, take, true, unsigned_abs};
+ghost use Rattle.vid_geom.specs.CodedOrder.{block_columns, order_of, place_of, plane_blocks};
+ghost use Rattle.thr_dc.specs.Frames.{raster_block};
+ghost use Rattle.thr_dc.specs.Planes.{IsPlane};
+ghost use Rattle.thr_dc.specs.Prediction.{around, counted, last_of, neighbour, predicted};
+ghost use Rattle.thr_dc.specs.Walks.{blocks_of};
+
+use crate::dc::Dc;
+use crate::plane::Plane;
+use crate::predictor::from_neighbours;
+use vid_geom::{Block, Geom};
+
+impl<'a> Plane<'a> {
+    /// A plane of a frame.
+    pub(crate) fn new(geom: &'a Geom, flags: &'a [bool], kinds: &'a [u8], pli: u8) -> Plane<'a>
+        requires plane { pli < 3 }
+        requires flags { length flags.now ≡ length (order_of geom.now) }
+        requires kinds { length kinds.now ≡ length (order_of geom.now) }
+        ensures geom { result.geom.now ≡ geom.now }
+        ensures flags { result.flags.now ≡ flags.now }
+        ensures kinds { result.kinds.now ≡ kinds.now }
+        ensures plane { result.pli ≡ pli }
+    {
+        let shape = geom.shape();
+        let columns = shape.width(pli) / 8;
+        Plane {
+            geom,
+            flags,
+            kinds,
+            pli,
+            columns,
+            blocks: columns * (shape.height(pli) / 8),
+        }
+    }
+}
+
+impl Plane<'_> {
+    /// The coded place of a block by its place in raster order.
+    pub(crate) fn coded_place(&self, place: u32) -> usize
+        requires { place < self.now.blocks }
+        ensures value { result ≡ place_of self.now.geom.now (raster_block self.now.geom.now self.now.pli place) }
+        ensures below { result < length (order_of self.now.geom.now) }
+    {
+        let block = Block {
+            pli: self.pli,
+            col: place % self.columns,
+            row: place / self.columns,
+        };
+        self.geom.place(block) as usize
+    }
+
+    // The DC value of a block, if it is coded.
+    fn dc(&self, values: &[[i16; 64]], place: u32) -> Option<Dc>
+        requires place { place < self.now.blocks }
+        requires values { length values.now ≡ length (order_of self.now.geom.now) }
+        ensures { result ≡ get_or (blocks_of self.now values.now) place None }
+    {
+        let coded_place = self.coded_place(place);
+        if !self.flags[coded_place] {
+            return None;
+        }
+        Some(Dc {
+            kind: self.kinds[coded_place],
+            value: values[coded_place][0],
+        })
+    }
+
+    // The DC value of a block, where it counts for a kind.
+    fn counted(&self, values: &[[i16; 64]], place: u32, kind: u8) -> Option<i16>
+        requires place { place < self.now.blocks }
+        requires values { length values.now ≡ length (order_of self.now.geom.now) }
+        ensures { result ≡ counted kind (get_or (blocks_of self.now values.now) place None) }
+    {
+        match self.dc(values, place) {
+            None => None,
+            Some(dc) => {
+                if dc.kind == kind {
+                    Some(dc.value)
+                } else {
+                    None
+                }
+            }
+        }
+    }
+
+    // The value of the block at a place, where there is such a block and it counts.
+    fn neighbour(&self, values: &[[i16; 64]], kind: u8, there: bool, place: u32) -> Option<i16>
+        requires place { there ≡ true → place < self.now.blocks }
+        requires values { length values.now ≡ length (order_of self.now.geom.now) }
+        ensures { result ≡ neighbour kind (blocks_of self.now values.now) there place }
+    {
+        if there {
+            self.counted(values, place, kind)
+        } else {
+            None
+        }
+    }
+
+    // The last value of a kind before a place. From one block of a kind to the next no block is asked twice.
+    fn last(&self, values: &[[i16; 64]], before: u32, kind: u8) -> i16
+        requires place { before ≤ self.now.blocks }
+        requires values { length values.now ≡ length (order_of self.now.geom.now) }
+        ensures { result ≡ last_of kind (take before (blocks_of self.now values.now)) }
+    {
+        'places: for place in (0..before).rev() {
+            if let Some(value) = self.counted(values, place, kind) {
+                return value;
+            }
+        }
+        0
+    }
+
+    // What the neighbours of the block at a place predict, if one counts for a kind.
+    fn around(&self, values: &[[i16; 64]], place: u32, kind: u8) -> Option<i32>
+        requires place { place < self.now.blocks }
+        requires values { length values.now ≡ length (order_of self.now.geom.now) }
+        ensures value { result ≡ around (block_columns self.now.geom.now self.now.pli) (take place (blocks_of self.now values.now)) kind }
+        ensures within { IfSome result (λ p. unsigned_abs p ≤ 32896) }
+    {
+        let column = place % self.columns;
+        let has_left = column > 0;
+        let has_below = place >= self.columns;
+        let has_right = column + 1 < self.columns;
+        let below = place.saturating_sub(self.columns);
+        from_neighbours(
+            self.neighbour(values, kind, has_left, place.saturating_sub(1)),
+            self.neighbour(values, kind, has_left && has_below, below.saturating_sub(1)),
+            self.neighbour(values, kind, has_below, below),
+            self.neighbour(values, kind, has_below && has_right, below + 1),
+        )
+    }
+
+    /// The predictor of the block at a place in raster order, if it has this kind.
+    #[tactic(auto, unfolding(crate::specs::Prediction::predicted))]
+    pub(crate) fn predictor(&self, values: &[[i16; 64]], place: u32, kind: u8) -> i32
+        requires place { place < self.now.blocks }
+        requires values { length values.now ≡ length (order_of self.now.geom.now) }
+        ensures value { result ≡ predicted (block_columns self.now.geom.now self.now.pli) (take place (blocks_of self.now values.now)) kind }
+        ensures within { unsigned_abs result ≤ 32896 }
+    {
+        match self.around(values, place, kind) {
+            Some(predictor) => predictor,
+            None => i32::from(self.last(values, place, kind)),
+        }
+    }
+}
