@@ -3,7 +3,7 @@ ghost use Rattle.thr_token.specs.Tokenised.{AreBlank, IsToken};
 ghost use Rattle.thr_token.specs.WrittenTokens.{IsHeld};
 
 use crate::meaning::further_bits;
-use crate::writing::{Part, tree_of};
+use crate::writing::Part;
 use crate::*;
 use std::alloc::Global;
 use std::process::Abort;
@@ -44,7 +44,7 @@ fn is_writable(token: Token, forest: &Forest, tables: &Tables) -> bool
         return false;
     }
     let part = if token.place == 0 { Part::Dc } else { Part::Ac };
-    let tree = tree_of(tables.of(part), token);
+    let tree = tables.of(part).tree_of(token.place, token.luma);
     token.extra < 1 << further_bits(token.token) && forest.code(tree, token.token).is_some()
 }
 

@@ -51,8 +51,8 @@ impl TableNumbers {
         Ok(TableNumbers { luma, chroma })
     }
 
-    // The tree by which a block's token is read.
-    fn tree_of(self, place: u8, luma: bool) -> u8
+    /// The tree by which a block's token is read.
+    pub(crate) fn tree_of(self, place: u8, luma: bool) -> u8
         requires luma { self.luma < 16 }
         requires chroma { self.chroma < 16 }
         ensures value { result ≡ tree_of self place luma }

@@ -1,7 +1,7 @@
 // The tokens of a frame are written (Theora I, 7.7.3).
 ghost use Rattle.std.specs.Prelude.{◌≡◌, ◌<◌, ◌++◌, ℕ, ℤ, Bool, List, All, IsSome, OnErr, OnOk};
 ghost use Rattle.vid_base.specs.declared.shape.Shape.{Shape};
-ghost use Rattle.thr_token.specs.Coefficients.{coefficients, group_of, tree_of};
+ghost use Rattle.thr_token.specs.Coefficients.{coefficients};
 ghost use Rattle.thr_token.specs.Tokenised.{IsToken, Tells};
 ghost use Rattle.thr_token.specs.WrittenTokens.{Grows, IsHeld, ReadsBack, code_for, codes_in, in_part, numbers_code, numbers_of, part_code, token_code, tokens_code};
 
@@ -50,35 +50,6 @@ impl Tables {
     }
 }
 
-// The group of a place.
-fn group_of(place: u8) -> u8
-    ensures value { result ≡ group_of place }
-    ensures small { result < 5 }
-{
-    match place {
-        0 => 0,
-        1..=5 => 1,
-        6..=14 => 2,
-        15..=27 => 3,
-        _ => 4,
-    }
-}
-
-// The tree by which a token is written.
-pub(crate) fn tree_of(numbers: TableNumbers, token: Token) -> u8
-    requires luma { numbers.luma < 16 }
-    requires chroma { numbers.chroma < 16 }
-    ensures value { result ≡ tree_of numbers token.place token.luma }
-    ensures small { result < 80 }
-{
-    let number = if token.luma {
-        numbers.luma
-    } else {
-        numbers.chroma
-    };
-    16 * group_of(token.place) + number
-}
-
 // Adds the numbers of two tables.
 #[tactic(auto, unfolding(crate::specs::WrittenTokens::numbers_code))]
 fn write_numbers(w: &mut BitWriter, numbers: TableNumbers) -> Result<(), NoMem>
@@ -106,7 +77,7 @@ fn write_token(
     ensures written { OnOk result (w.new ≡ w.old ++ token_code forest.now numbers token) }
     ensures memory { OnErr result (Grows w.old w.new) }
 {
-    match forest.code(tree_of(numbers, token), token.token) {
+    match forest.code(numbers.tree_of(token.place, token.luma), token.token) {
         Some(code) => {
             w.put(code.bits, u32::from(code.len))?;
             w.put(token.extra, further_bits(token.token))
