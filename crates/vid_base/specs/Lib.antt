@@ -1,6 +1,8 @@
 pub mod Bits
 pub mod Reading
+pub mod Writing
 pub mod Items
+pub mod Rules
 pub mod Faults
 pub mod Sizes
 pub mod Arithmetic

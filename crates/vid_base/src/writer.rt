@@ -1,6 +1,7 @@
 // A writer of the bits of a packet (Theora I, 5.2).
 ghost use Rattle.std.specs.Prelude.{◌≡◌, ◌+◌, ◌*◌, ◌^◌, ◌<◌, ◌≤◌, ◌∷◌, ◌++◌, [], ℕ, Bool, List, Some, OnOk, OnErr, length, vec_len, vec_capacity};
 ghost use Rattle.vid_base.specs.Bits.{digits, bits_of, zeros, to_byte, take_bits};
+ghost use Rattle.vid_base.specs.Writing.{AddsBit, Grows};
 
 use crate::NoMem;
 use std::alloc::Global;
@@ -61,7 +62,7 @@ impl BitWriter {
 
     // One more bit.
     fn push(&mut self, bit: bool) -> Result<(), NoMem>
-        ensures written { OnOk result (self.new ≡ self.old ++ bit ∷ []) }
+        ensures written { OnOk result (AddsBit bit self.old self.new) }
         ensures memory { OnErr result (self.new ≡ self.old) }
     {
         make_room(&mut self.bytes, self.count)?;
@@ -83,7 +84,7 @@ impl BitWriter {
         requires n { n ≤ 32 }
         requires value { value < 2 ^ n }
         ensures written { OnOk result (self.new ≡ self.old ++ digits n value) }
-        ensures memory { OnErr result ((more : List Bool) × (self.new ≡ self.old ++ more)) }
+        ensures memory { OnErr result (Grows self.old self.new) }
         ensures reads_back { OnOk result ((rest : List Bool) → take_bits n (digits n value ++ rest) ≡ Some (value, rest)) }
     {
         let mut left = n;
