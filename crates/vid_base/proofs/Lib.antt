@@ -4,3 +4,4 @@ pub mod PlaceLemmas
 pub mod WriterLemmas
 pub mod ItemLemmas
 pub mod ArithmeticLemmas
+pub mod ReadingLemmas

@@ -17,6 +17,11 @@ pub length-left_at : (bytes : List ℕ) (at shift : ℕ) → length (left_at byt
 unfolding left_at
 length-left_at bytes at shift = omega (arith, length-drop shift (bits_of (drop at bytes)), length-bits_of (drop at bytes), length-drop at bytes)
 
+-- a place and what is left behind it are all bits
+pub same_end : (bytes : List ℕ) (at shift at' shift' : ℕ) → 8 * at + shift ≤ 8 * length bytes → 8 * at' + shift' ≤ 8 * length bytes
+    → 8 * at' + shift' + length (left_at bytes at' shift') ≡ 8 * at + shift + length (left_at bytes at shift)
+same_end bytes at shift at' shift' h k = omega (arith, length-left_at bytes at shift, length-left_at bytes at' shift')
+
 -- behind a bit of a byte stand the byte's lower digits, and then the other bytes
 left_is : (bytes : List ℕ) (at shift low : ℕ) → shift + low ≡ 8 → at < length bytes → left_at bytes at shift ≡ digits low (get_or bytes at 0) ++ bits_of (drop (at + 1) bytes)
 unfolding left_at

@@ -1,5 +1,5 @@
 -- Reading: from a list of bits come a value and the bits behind it, or the first fault (Theora I, 5.2).
-use Rattle.std.specs.Prelude.{◌≡◌, ℕ, ⊤, Bool, List, [], ◌∷◌, Option, Some, None, Result, Ok, Err}
+use Rattle.std.specs.Prelude.{◌≡◌, ℕ, ◌+◌, ⊤, Bool, List, [], ◌∷◌, length, Option, Some, None, Result, Ok, Err}
 use Rattle.vid_base.specs.declared.fault.PacketFault.{PacketFault}
 use Rattle.vid_base.specs.declared.fault.PacketFault.TheVariants.{Ended as EndedFault}
 use Rattle.vid_base.specs.declared.fault.Refusal.{Refusal}
@@ -11,6 +11,10 @@ use Rattle.vid_base.specs.Bits.{take_bits}
 pub record Reading : Type 0 where
   pub place : ℕ
   pub left : List Bool
+
+-- what was taken and what is left are as many bits as before
+abbrev pub SameEnd : Reading → Reading → Type 0
+SameEnd old new = new.place + length new.left ≡ old.place + length old.left
 
 -- reading goes on with what was read, and stops at the first fault
 infixl 10 ◌>>=◌
@@ -31,6 +35,11 @@ or_ended None = Err EndedFault
 -- a field of n bits
 abbrev pub field : ℕ → List Bool → Result (ℕ × List Bool) PacketFault
 field n bits = or_ended (take_bits n bits)
+
+-- a bit as a truth value
+unfoldable pub one_bit : List Bool → Result (Bool × List Bool) PacketFault
+one_bit [] = Err EndedFault
+one_bit (bit ∷ bits) = Ok (bit, bits)
 
 -- a call that takes a number of the bits, and what it leaves, stand to the bits as `taken` says
 abbrev pub Taken : {E : Type 0} → Result ℕ E → List Bool → Option (ℕ × List Bool) → Type 0
@@ -62,3 +71,7 @@ GivesOrEnded view (Err _) left read = read ≡ Err EndedFault
 abbrev pub Refuses : {Y : Type 0} → Refusal → Result Y PacketFault → Type 0
 Refuses (Bad fault) read = read ≡ Err fault
 Refuses NoMem read = ⊤
+
+-- where no memory was found, what a call works on is as it was
+abbrev pub KeptOnNoMem : {X V : Type 0} → Result X Refusal → V → V → Type 0
+KeptOnNoMem result old new = result ≡ Err NoMem → new ≡ old

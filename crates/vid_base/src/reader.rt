@@ -1,7 +1,7 @@
 // A reader of the bits of a packet (Theora I, 5.2).
 ghost use Rattle.std.specs.Prelude.{◌≡◌, ◌+◌, ◌*◌, ◌^◌, ◌<◌, ◌≤◌, ◌++◌, OnOk, OnErr, IfOk, IfSome, IsTrue, ◌↔◌, length};
 ghost use Rattle.vid_base.specs.Bits.{take_bits, bits_of, digits, number_in};
-ghost use Rattle.vid_base.specs.Reading.{Taken, TakesBit};
+ghost use Rattle.vid_base.specs.Reading.{SameEnd, Taken, TakesBit};
 ghost use Rattle.vid_base.specs.Places.{left_at};
 
 use crate::Ended;
@@ -107,6 +107,7 @@ impl<'a> BitReader<'a> {
     /// A reader of all bits of these bytes.
     pub fn new(bytes: &'a [u8]) -> BitReader<'a>
         ensures left { result.left ≡ bits_of bytes.now }
+        ensures count { length result.left ≡ 8 * length bytes.now }
         ensures place { result.place ≡ 0 }
     {
         BitReader {
@@ -122,6 +123,18 @@ impl<'a> BitReader<'a> {
         ensures { result ≡ self.now.place }
     {
         8 * (self.at as u64) + u64::from(self.shift)
+    }
+
+    /// How many bits are left.
+    pub fn left(&self) -> u64
+        requires { length self.now.left < 2 ^ 64 }
+        ensures { result ≡ length self.now.left }
+    {
+        if self.at == self.bytes.len() {
+            return 0;
+        }
+        let behind = self.bytes.len() - self.at - 1;
+        8 * (behind as u64) + u64::from(8 - self.shift)
     }
 
     // Whether n bits are left. No product here passes 64 bits, however long the packet is.
@@ -140,6 +153,7 @@ impl<'a> BitReader<'a> {
         ensures value { Taken result self.new.left (take_bits n self.old.left) }
         ensures place { OnOk result (self.new.place ≡ self.old.place + n) }
         ensures ended { OnErr result (self.new ≡ self.old) }
+        ensures end { SameEnd self.old self.new }
         ensures small { IfOk result (λ v. v < 2 ^ n) }
     {
         if !self.has(n) {
@@ -156,6 +170,7 @@ impl<'a> BitReader<'a> {
         ensures value { TakesBit result self.new.left self.old.left }
         ensures place { OnOk result (self.new.place ≡ self.old.place + 1) }
         ensures ended { OnErr result (self.new ≡ self.old) }
+        ensures end { SameEnd self.old self.new }
     {
         if self.at == self.bytes.len() {
             return Err(Ended);

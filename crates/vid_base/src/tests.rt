@@ -3,15 +3,16 @@ use crate::*;
 #[test]
 fn takes_numbers_across_bytes(rt: HostRuntime) {
     let mut r = BitReader::new(&[0xa5, 0x0f]);
+    assert_eq!(rt; (r.place(), r.left()), (0, 16));
     assert_eq!(rt; r.take(3), Ok(5));
     assert_eq!(rt; r.peek(8), Some(0x28));
     assert_eq!(rt; r.take(8), Ok(0x28));
     assert_eq!(rt; r.take(6), Err(Ended));
-    assert_eq!(rt; r.place(), 11);
+    assert_eq!(rt; (r.place(), r.left()), (11, 5));
     assert_eq!(rt; r.bit(), Ok(false));
     assert_eq!(rt; r.take(4), Ok(15));
     assert_eq!(rt; r.bit(), Err(Ended));
-    assert_eq!(rt; r.place(), 16);
+    assert_eq!(rt; (r.place(), r.left()), (16, 0));
 }
 
 #[test]

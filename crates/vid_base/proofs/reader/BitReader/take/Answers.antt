@@ -1,6 +1,6 @@
 use Rattle.std.proofs.Common.{arith}
 use Rattle.vid_base.proofs.NumberLemmas.{none_left, take-of}
-use Rattle.vid_base.proofs.PlaceLemmas.{room_left}
+use Rattle.vid_base.proofs.PlaceLemmas.{room_left, same_end}
 use Rattle.vid_base.proofs.reader.BitReader.take.Goals as goal
 
 pub returns-then-not-has-clause-value : goal.returns-then-not-has-clause-value
@@ -17,3 +17,8 @@ invariant_of-self c =
 
 pub returns-clause-value : goal.returns-clause-value
 returns-clause-value c = rw (← c.self.view_is) (take-of c.args.n c.bits_at-value.result.0 _ _ c.bits_at-value.ensures.small c.bits_at-value.ensures.bits)
+
+pub returns-clause-end : goal.returns-clause-end
+returns-clause-end c =
+    let room = room_left c.self.inside.bytes.now c.self.inside.at c.self.inside.shift c.args.n (c.self.invariant.2) (rw (← c.self.view_is) at (c.has.ensures.0 c.if-not-has.false)) in
+    rw (← c.self.view_is) (same_end c.self.inside.bytes.now c.self.inside.at c.self.inside.shift c.bits_at-value.result.1 c.bits_at-value.result.2 (c.self.invariant.2) (omega (arith, room)))
