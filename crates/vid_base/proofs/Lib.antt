@@ -4,4 +4,5 @@ pub mod PlaceLemmas
 pub mod WriterLemmas
 pub mod ItemLemmas
 pub mod ArithmeticLemmas
+pub mod FrontLemmas
 pub mod ReadingLemmas

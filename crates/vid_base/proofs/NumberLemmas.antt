@@ -73,6 +73,11 @@ taken : (n v : ℕ) (bits rest : List Bool) → n ≤ length bits → v ≡ numb
 unfolding take_bits number
 taken n v bits rest h e f = let enough : ltb (length bits) n ≡ false = le-ltb (length bits) n h in rw (enough, e, f) refl
 
+-- the first n bits, where so many are there
+pub taken-enough : (n : ℕ) (bits : List Bool) → n ≤ length bits → take_bits n bits ≡ Some (number (take n bits), drop n bits)
+unfolding number
+taken-enough n bits h = taken n (number (take n bits)) bits (drop n bits) h refl refl
+
 -- what was put is taken, whatever follows it
 pub take-digits : (n v : ℕ) (rest : List Bool) → v < 2 ^ n → take_bits n (digits n v ++ rest) ≡ Some (v, rest)
 take-digits n v rest h =

@@ -1,6 +1,7 @@
 pub mod Bits
 pub mod Reading
 pub mod Writing
+pub mod Fronts
 pub mod Items
 pub mod Rules
 pub mod Faults

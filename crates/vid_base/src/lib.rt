@@ -6,12 +6,14 @@
 
 mod arithmetic;
 mod fault;
+mod fronts;
 mod reader;
 mod shape;
 mod writer;
 
 pub use arithmetic::{div_zero, ilog, round_half_out, trunc16};
 pub use fault::{Ended, NoMem, PacketFault, Refusal};
+pub use fronts::fields_read_from_the_front;
 pub use reader::BitReader;
 pub use shape::{Shape, Vector};
 pub use writer::BitWriter;
