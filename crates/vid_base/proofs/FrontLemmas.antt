@@ -8,7 +8,7 @@ use Rattle.vid_base.specs.declared.fault.PacketFault.{PacketFault}
 use Rattle.vid_base.specs.declared.fault.PacketFault.TheVariants.{Ended}
 use Rattle.vid_base.specs.Bits.{number}
 use Rattle.vid_base.specs.Reading.{◌>>=◌, field, one_bit}
-use Rattle.vid_base.specs.Items.{items}
+use Rattle.vid_base.specs.Items.{items, with_front}
 use Rattle.vid_base.specs.Fronts.{chained, Continues, LeavesLess, ReadsCut, ReadsFront}
 use Rattle.vid_base.proofs.NumberLemmas.{take-none, taken-enough}
 
@@ -110,6 +110,10 @@ front-then read next f g = record {
   rest = λ w bits left e. then_rest next g (read bits) w left bits (λ v mid. f.rest v bits mid) e;
   front = λ bits more. then_front next g (read bits) (read (bits ++ more)) more (f.front bits more);
 }
+
+-- items that were read before stand in front
+pub front-with : {A : Type 0} (front : List A) (read : List Bool → Read (List A)) → ReadsFront read → ReadsFront (λ bits. with_front front (read bits))
+front-with front read f = front-then read (λ rest. Ok (front ++ rest.0, rest.1)) f (λ others. front-value (front ++ others))
 
 -- n items one behind the other
 pub front-items : {A : Type 0} (item : List Bool → Read A) (n : ℕ) → ReadsFront item → ReadsFront (items item n)
