@@ -2,6 +2,7 @@
 use Rattle.std.proofs.Common.{◌≡◌, ℕ, zero, suc, ◌+◌, ◌-◌, ◌*◌, ◌/◌, ◌%◌, ◌^◌, ◌<◌, ◌≤◌, Bool, List, [], ◌∷◌, ◌++◌, length, take, drop, get_or, refl, ap, sym, ◌∙◌, inl, inr, arith}
 use Rattle.std.proofs.Math.Seq.{take-append_seam, drop-append-add, drop-drop, drop-nil}
 use Rattle.std.proofs.Math.Nat.{pow-suc}
+use Rattle.std.proofs.Math.Pow.{pow_mono}
 use Rattle.std.proofs.lemmas.Nat.{be_bytes_8, pow-add, shr-shr, shr_below}
 use Rattle.std.proofs.lemmas.Bool.{cases_lt}
 use Rattle.std.proofs.lemmas.List.{get_or-drop, get_or-take, get_or_past, length-drop, length-take, length-take-le, take-append-drop, take-append-le, drop-append-le}
@@ -87,6 +88,11 @@ word-small up n h k =
     let parts : n + (64 - n) ≡ 64 = omega arith in
     let bound : up < 2 ^ (n + (64 - n)) = rw parts h in
     rw (shr-shr up 1 (63 - n), down) (shr_below up n (64 - n) bound)
+
+pub word-fits : (up n : ℕ) → up < 2 ^ 64 → n ≤ 32 → up / 2 ^ 1 / 2 ^ (63 - n) < 2 ^ 32
+word-fits up n h k =
+    let most : 2 ^ n ≤ 2 ^ 32 = pow_mono k in
+    omega (arith, word-small up n h k)
 
 -- a word that is there holds the first bits of what is left
 pub left_word : (bytes : List ℕ) (at shift n word value at' shift' : ℕ) → at + 8 ≤ length bytes → shift < 8 → n ≤ 32
