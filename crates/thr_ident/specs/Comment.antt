@@ -5,7 +5,7 @@ use Rattle.std.specs.Int.{w32, from_le_bytes}
 use Rattle.std.specs.List.{starts_with}
 use Rattle.vid_base.specs.declared.fault.PacketFault.{PacketFault}
 use Rattle.vid_base.specs.declared.fault.PacketFault.TheVariants.{NotComment, CommentLength}
-use Rattle.thr_ident.specs.Rules.{Rule, first_fault, unless}
+use Rattle.vid_base.specs.Rules.{Rule, first_fault, unless}
 
 -- the first bytes of a comment header: its type, and the codec's name
 abbrev pub comment_name : List ℕ
@@ -33,7 +33,7 @@ unfoldable pub after_comments : List ℕ → Option (List ℕ)
 after_comments bytes = option_and_then (λ count. after_texts count.0 count.1) (option_and_then length_in (after_text bytes))
 
 -- the rules of a packet
-unfoldable pub comment_rules : List ℕ → List Rule
+unfoldable pub comment_rules : List ℕ → List (Rule PacketFault)
 comment_rules bytes =
     (starts_with nat_eq bytes comment_name, NotComment)
     ∷ (is_some (after_comments (drop 7 bytes)), CommentLength)

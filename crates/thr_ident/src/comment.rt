@@ -50,7 +50,7 @@ fn skip_texts(bytes: &[u8], count: u32) -> Result<&[u8], PacketFault>
 
 /// Looks for the first fault of a comment header: `NotComment`, where the first 7 bytes are not its; `CommentLength`,
 /// where a length is not whole or a text passes the end. Texts are not looked at, nor are bytes behind the last.
-#[tactic(auto, unfolding(crate::specs::Comment::comment_of, crate::specs::Comment::comment_rules, crate::specs::Rules::first_fault, crate::specs::Comment::after_comments))]
+#[tactic(auto, unfolding(crate::specs::Comment::comment_of, crate::specs::Comment::comment_rules, vid_base::specs::Rules::first_fault, crate::specs::Comment::after_comments))]
 pub fn read_comment(bytes: &[u8]) -> Result<(), PacketFault>
     ensures { result ≡ comment_of bytes.now }
 {
