@@ -50,18 +50,18 @@ word-bits bytes eight at word fit there e f =
     ap bits_of (sym back) ∙ bits_of-bytes 8 word
 
 -- the bits behind a whole byte
-bits_of-drop : (at : ℕ) (bytes : List ℕ) → bits_of (drop at bytes) ≡ drop (8 * at) (bits_of bytes)
+pub bits-behind : (at : ℕ) (bytes : List ℕ) → bits_of (drop at bytes) ≡ drop (8 * at) (bits_of bytes)
 unfolding bits_of
-bits_of-drop zero bytes = refl
-bits_of-drop (suc at) [] = sym (drop-nil (8 * suc at))
-bits_of-drop (suc at) (b ∷ bytes) =
+bits-behind zero bytes = refl
+bits-behind (suc at) [] = sym (drop-nil (8 * suc at))
+bits-behind (suc at) (b ∷ bytes) =
     let more : 8 * suc at ≡ 8 + 8 * at = omega arith in
-    rw more (bits_of-drop at bytes ∙ sym (drop-append-add (byte_bits b) (bits_of bytes) (8 * at)))
+    rw more (bits-behind at bytes ∙ sym (drop-append-add (byte_bits b) (bits_of bytes) (8 * at)))
 
 -- what is left behind a place, counted in bits alone
 pub left-is : (bytes : List ℕ) (at shift : ℕ) → left_at bytes at shift ≡ drop (8 * at + shift) (bits_of bytes)
 unfolding left_at
-left-is bytes at shift = ap (drop shift) (bits_of-drop at bytes) ∙ drop-drop shift (8 * at) (bits_of bytes)
+left-is bytes at shift = ap (drop shift) (bits-behind at bytes) ∙ drop-drop shift (8 * at) (bits_of bytes)
 
 -- the first of the digits that a number has behind its first few
 pub word-front : (word shift n : ℕ) → shift < 8 → n ≤ 32 → digits n (word * 2 ^ shift % 2 ^ 64 / 2 ^ 1 / 2 ^ (63 - n)) ≡ take n (drop shift (digits 64 word))
