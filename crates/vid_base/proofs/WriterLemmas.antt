@@ -1,5 +1,6 @@
 -- Bytes that a writer fills, and the digits that it still has to write.
-use Rattle.std.proofs.Common.{◌≡◌, ℕ, ◌+◌, ◌-◌, ◌*◌, ◌/◌, ◌%◌, ◌^◌, ◌<◌, ◌≤◌, Bool, List, [], ◌∷◌, ◌++◌, length, length-append, ap, sym, ◌∙◌, arith, append_assoc}
+use Rattle.std.proofs.Common.{◌≡◌, ℕ, ◌+◌, ◌-◌, ◌*◌, ◌/◌, ◌%◌, ◌^◌, ◌<◌, ◌≤◌, Bool, List, [], ◌∷◌, ◌++◌, length, length-append, ap, sym, ◌∙◌, arith, append_assoc, Result, Ok, Err, OnErr, inl, inr}
+use Rattle.std.proofs.lemmas.Bool.{cases_lt}
 use Rattle.vid_base.specs.Bits.{digits, zeros, bits_of, to_byte}
 use Rattle.vid_base.proofs.DigitLemmas.{digits-cat, digits-joined, digits-mod, digits-shift, bits_of-append, bits_of-byte, length-bits_of, length-digits}
 
@@ -22,6 +23,21 @@ byte_step items next bits left all h e f =
     ∙ append_assoc (bits_of items) (digits 8 (bits / 2 ^ (left - 8))) (digits (left - 8) bits)
     ∙ ap (λ d. bits_of items ++ d) (sym (ap (λ n. digits n bits) parts ∙ digits-cat 8 (left - 8) bits))
     ∙ f
+
+-- a number wants another byte where what was begun does not hold it
+pub byte_wanted : (items : List ℕ) (count part n len capacity : ℕ) (all : List Bool) → bits_of items ++ digits count part ≡ all → count < 8 → len ≤ capacity → (0 < count → len < capacity)
+    → capacity < len + (count + n + 7) / 8 → to_byte (length all) < n
+byte_wanted items count part n len capacity all e few fits room full =
+    let bits : length all ≡ 8 * length items + count = sym (ap length e) ∙ omega (arith, length-append (bits_of items) (digits count part), length-bits_of items, length-digits count part) in
+    rw bits (elim (cases_lt 0 count) [
+      | inl begun ↦ let spare : len < capacity = room begun in omega arith
+      | inr none ↦ omega arith
+    ])
+
+-- a fact that holds in any case holds after an error
+pub on_err : {T E P : Type 0} (r : Result T E) → P → OnErr r P
+on_err (Ok x) h = tt
+on_err (Err e) h = h
 
 -- a byte that was begun, and a number behind it
 pub begun_then : (items : List ℕ) (count part n value : ℕ) (old : List Bool) → value < 2 ^ n → bits_of items ++ digits count part ≡ old

@@ -66,13 +66,14 @@ impl BitWriter {
         }
     }
 
-    /// Adds the lowest n bits of the value, the highest first. After `NoMem` the bits that were there are followed by
-    /// some of them.
+    /// Adds the lowest n bits of the value, the highest first. After `NoMem`, which comes only where the byte that was
+    /// begun does not hold them, the bits that were there are followed by some of them.
     pub fn put(&mut self, value: u32, n: u32) -> Result<(), NoMem>
         requires n { n ≤ 32 }
         requires value { value < 2 ^ n }
         ensures written { OnOk result (self.new ≡ self.old ++ digits n value) }
         ensures memory { OnErr result (Grows self.old self.new) }
+        ensures needed { OnErr result (to_byte (length self.old) < n) }
         ensures reads_back { OnOk result ((rest : List Bool) → take_bits n (digits n value ++ rest) ≡ Some (value, rest)) }
     {
         let count = u32::from(self.count) + n;

@@ -3,7 +3,7 @@ use Rattle.vid_base.proofs.ArithmeticLemmas.{joined_fits}
 use Rattle.vid_base.proofs.DigitLemmas.{digits-mod}
 use Rattle.vid_base.proofs.NumberLemmas.{take-digits}
 use Rattle.vid_base.proofs.PlaceLemmas.{one_shifted}
-use Rattle.vid_base.proofs.WriterLemmas.{begun_then}
+use Rattle.vid_base.proofs.WriterLemmas.{begun_then, byte_wanted, on_err}
 use Rattle.vid_base.proofs.writer.BitWriter.put.Goals as goal
 
 pub returns-clause-written : goal.returns-clause-written
@@ -16,3 +16,7 @@ returns-clause-written c =
 
 pub returns-clause-reads_back : goal.returns-clause-reads_back
 returns-clause-reads_back c = λ rest. take-digits c.args.n c.args.value rest c.requires.value
+
+pub returns-in_err-try_reserve-clause-needed : goal.returns-in_err-try_reserve-clause-needed
+returns-in_err-try_reserve-clause-needed c =
+    on_err c.from_residual.result (byte_wanted c.self.inside.bytes.items c.self.inside.count c.self.inside.part c.args.n _ _ c.args.self.now c.self.view_is (omega arith) (omega arith) (c.self.invariant.2) (omega (arith, c.in_err-try_reserve.ensures.full)))
