@@ -7,7 +7,7 @@ use Rattle.vid_base.specs.declared.fault.PacketFault.TheVariants.{TooLarge}
 use Rattle.vid_base.specs.Reading.{◌>>=◌, and_then}
 use Rattle.thr_ident.specs.Ident.{ident_of}
 use Rattle.thr_ident.specs.Comment.{comment_of}
-use Rattle.thr_ident.specs.Rules.{first_fault, unless}
+use Rattle.vid_base.specs.Rules.{first_fault, unless}
 use Rattle.thr_setup.specs.Setup.{setup_of}
 use Rattle.src_index.specs.declared.heads.Known.{Known}
 use Rattle.src_index.specs.declared.fault.Fault.{Fault}

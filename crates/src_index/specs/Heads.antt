@@ -5,7 +5,7 @@ use Rattle.vid_base.specs.declared.fault.PacketFault.{PacketFault}
 use Rattle.vid_base.specs.declared.fault.PacketFault.TheVariants.{NotData, FirstNotKey, KeyTooFar, TooLarge}
 use Rattle.vid_base.specs.Reading.{◌>>=◌, and_then}
 use Rattle.ogg_page.specs.Granule.{is_key}
-use Rattle.thr_ident.specs.Rules.{Rule, first_fault, unless}
+use Rattle.vid_base.specs.Rules.{Rule, first_fault, unless}
 use Rattle.thr_ident.specs.Ident.{ident_of}
 use Rattle.thr_ident.specs.Comment.{comment_of}
 use Rattle.thr_setup.specs.Setup.{setup_of}
@@ -41,7 +41,7 @@ key_at known packet = if is_key packet then known.packets - headers else known.l
 
 -- the rules of a packet that carries a frame: its first bit, that the first frame is a key frame, and that a granule
 -- position can count the frames since the key frame
-unfoldable pub head_rules : Known → List ℕ → List Rule
+unfoldable pub head_rules : Known → List ℕ → List (Rule PacketFault)
 head_rules known packet =
     (is_data packet, NotData)
     ∷ (is_key packet || nat_lt headers known.packets, FirstNotKey)

@@ -78,7 +78,7 @@ impl Known {
     }
 
     // A frame more.
-    #[tactic(auto, unfolding(crate::specs::Heads::head_rules, thr_ident::specs::Rules::first_fault))]
+    #[tactic(auto, unfolding(crate::specs::Heads::head_rules, vid_base::specs::Rules::first_fault))]
     fn with_frame(self, packet: &[u8]) -> Result<Known, PacketFault>
         requires shift { self.shift < 2 ^ 5 }
         requires packets { (headers ≤ self.packets) × (self.packets < most_packets) }
