@@ -10,6 +10,7 @@ mod entry;
 mod fault;
 mod file;
 mod mem;
+mod system;
 
 pub use desk::Desk;
 pub use fault::{DeskFault, Failed};
