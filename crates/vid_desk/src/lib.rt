@@ -7,6 +7,7 @@
 
 mod desk;
 mod entry;
+mod failing;
 mod fault;
 mod file;
 mod mem;
