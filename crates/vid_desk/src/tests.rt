@@ -143,5 +143,7 @@ fn a_desk_in_memory_gives_and_takes_bytes(rt: HostRuntime) -> Result<(), Fail> {
         return Err(Fail::new("an input that is there was not found"));
     };
     assert!(rt; bytes.as_slice() == b"first".as_slice());
+    desk.fail_at(desk.calls())?;
+    assert_eq!(rt; desk.find("a"), Err(DeskFault::Failed));
     Ok(())
 }
