@@ -1,11 +1,15 @@
 //! The program: it hands the words of the command line and the files of the system to the top call.
 #![tactic(auto)]
 
+ghost use Rattle.std.specs.Prelude.{◌≡◌, ◌≢◌};
+ghost use Rattle.vid_desk.specs.Meaning.{Rose};
+
 use cut_app::{Status, oggcut};
+use cut_report::fault_line;
 use std::env;
 use std::io::ErrorKind;
 use std::process::ExitCode;
-use vid_desk::FileDesk;
+use vid_desk::{Desk, FileDesk};
 
 /// Ends with the number of the status: 2 also where a word is no text, and 10 where no memory is found for the words.
 fn main(rt: HostRuntime) -> ExitCode {
@@ -30,5 +34,20 @@ fn main(rt: HostRuntime) -> ExitCode {
         }
     }
     let mut desk = FileDesk::new(rt, alloc);
-    ExitCode::from(oggcut(alloc, &words, &mut desk).number())
+    let status = oggcut(alloc, &words, &mut desk);
+    ExitCode::from(close(&mut desk, status).number())
+}
+
+// The status once the outputs are closed: Done only where that came to no fault. Else its line is said, and where that
+// fails too the status says it all the same.
+fn close(desk: &mut FileDesk<HostRuntime>, status: Status) -> Status
+    ensures refused { status ≢ Status.Done → result ≡ status }
+    ensures done { result ≡ Status.Done → desk.new.write_faults ≡ desk.old.write_faults }
+    ensures cause { result ≡ Status.WriteFault → status ≢ Status.WriteFault → Rose desk.old.write_faults desk.new.write_faults }
+{
+    if status != Status::Done || desk.close_outputs().is_ok() {
+        return status;
+    }
+    let _ = desk.say(&fault_line(&Status::WriteFault));
+    Status::WriteFault
 }

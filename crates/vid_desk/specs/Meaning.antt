@@ -67,6 +67,17 @@ pub record HasCause {A : Type 0} (before now : ℕ) (result : Result A DeskFault
   pub later : before ≤ now
   pub failed : IsErrOf result Failed → Rose before now
 
+-- the causes of a call that reads inputs and writes outputs which were found and made before: it changes no input,
+-- finds and makes none, lets no count of faults fall, and where its answer says that a read or a write failed, that count rose
+pub record Causes (old new : Meaning) (ReadFailed WriteFailed : Type 0) : Type 0 where
+  pub inputs : new.inputs ≡ old.inputs
+  pub found : new.found ≡ old.found
+  pub made : new.made ≡ old.made
+  pub reads : old.read_faults ≤ new.read_faults
+  pub writes : old.write_faults ≤ new.write_faults
+  pub read_failed : ReadFailed → Rose old.read_faults new.read_faults
+  pub write_failed : WriteFailed → Rose old.write_faults new.write_faults
+
 -- reads change nothing but the count of their faults and the bytes asked for
 abbrev pub with_reads : Meaning → Meaning → Type 0
 with_reads old new = new ≡ record old { read_faults = new.read_faults; asked = new.asked }

@@ -1,11 +1,16 @@
--- A desk that is held in memory whole, with the numbers of the calls that are to fail (own).
-use Rattle.std.specs.Prelude.{◌≡◌, ℕ, ◌+◌, ◌-◌, ◌^◌, List, length, min, reverse, Option, Some, Result, Ok, Err, Contains}
+-- A desk that is held in memory whole, with the calls that are to fail (own).
+use Rattle.std.specs.Prelude.{◌≡◌, ℕ, ◌+◌, ◌-◌, ◌^◌, ◌==◌, List, length, min, reverse, unwrap_or, Option, Some, IsSome, Result, Ok, Err}
 use Rattle.std.specs.Option.{option_map}
 use Rattle.std.specs.Str.{bytes_eq}
 use Rattle.std.specs.List.{find}
 use Rattle.vid_desk.specs.declared.fault.DeskFault.{DeskFault}
 use Rattle.vid_desk.specs.declared.fault.DeskFault.TheVariants.{Failed, NoMem}
 use Rattle.vid_desk.specs.Meaning.{File, Meaning}
+
+-- a call that is to fail, by its number, and how many first bytes of its piece stand all the same
+pub record ToFail : Type 0 where
+  pub call : ℕ
+  pub part : ℕ
 
 -- the files, text, names and counts, how many calls were made, and those that are to fail, counted from 0
 pub record Memory : Type 0 where
@@ -18,7 +23,7 @@ pub record Memory : Type 0 where
   pub write_faults : ℕ
   pub asked : ℕ
   pub calls : ℕ
-  pub failing : List ℕ
+  pub failing : List ToFail
 
 -- it tells everything: each input counts as found, and each output as made
 abbrev pub told : Memory → Meaning
@@ -35,9 +40,17 @@ told m = record {
   made = length m.outputs;
 }
 
+-- how many bytes stand of the piece of the call of that number; None where it is not to fail
+abbrev pub part_at : List ToFail → ℕ → Option ℕ
+part_at failing call = option_map (λ failure. failure.part) (find (λ failure. failure.call == call) failing)
+
 -- the next call is to fail
 abbrev pub IsToFail : Memory → Type 0
-IsToFail m = Contains m.failing m.calls
+IsToFail m = IsSome (part_at m.failing m.calls)
+
+-- how many bytes stand of the piece of the next call, where it is to fail
+abbrev pub part_of : Memory → ℕ
+part_of m = unwrap_or (part_at m.failing m.calls) 0
 
 -- one call was counted, and those that are to fail stay
 abbrev pub CountsCall : Memory → Memory → Type 0

@@ -1,5 +1,5 @@
 // The files and names that a desk in memory holds (own).
-ghost use Rattle.std.specs.Prelude.{◌≡◌, ◌^◌, ◌<◌, ◌∷◌, ◌++◌, [], length, map, find, reverse, vec_len, OnOk, OnErr, IfOk, IfSome};
+ghost use Rattle.std.specs.Prelude.{◌≡◌, ◌^◌, ◌<◌, ◌∷◌, ◌++◌, [], length, map, find, reverse, vec_len, IsOk, OnOk, OnErr, IfOk, IfSome};
 ghost use Rattle.std.specs.Option.{option_copied};
 ghost use Rattle.std.specs.Str.{bytes_eq};
 ghost use Rattle.std.specs.String.{string_bytes};
@@ -74,6 +74,7 @@ pub fn extend(entries: &mut Vec<Entry>, id: usize, piece: &[u8]) -> Result<(), A
     requires { id < vec_len entries.old }
     ensures added { OnOk result (map file_of entries.new.items ≡ with_more (map file_of entries.old.items) id piece.now) }
     ensures memory { OnErr result (map file_of entries.new.items ≡ map file_of entries.old.items) }
+    ensures nothing { length piece.now ≡ 0 → IsOk result }
     ensures len { vec_len entries.new ≡ vec_len entries.old }
 {
     let entry = &mut entries[id];

@@ -1,24 +1,26 @@
 // A desk on the files of the system and standard output (own).
-ghost use Rattle.std.specs.Prelude.{◌≡◌};
+ghost use Rattle.std.specs.Prelude.{◌≡◌, ◌+◌, ◌-◌, ◌^◌, min, OnErr, OnOk};
 ghost use Rattle.vid_desk.specs.Counts.{untold};
 
 use crate::desk::count_fault;
+use crate::system::{fill, open_input, open_output, sync};
 use crate::{Desk, DeskFault, Failed};
 use std::alloc::Global;
-use std::fs::{self, File, OpenFile};
-use std::io::{self, ErrorKind, Write};
+use std::fs::{File, OpenFile};
+use std::io::Write;
 use std::marker::Model;
-use std::os::unix::fs::FileExt;
 use std::rt::Files;
 
 /// The files of the system by their paths, and standard output. It tells its counts alone.
 ///
-/// An output that is created replaces a file of that path. Paths that differ are taken to name different files.
+/// An input is a regular file. An output that is created replaces a file that is there, but no input of this desk,
+/// under whatever name: that is a fault, and leaves the input as it was.
 #[derive(Drop)]
 pub struct FileDesk<R: Files<File = File> + Print + Drop> {
     rt: R,
     inputs: Vec<File>,
-    outputs: Vec<File>,
+    /// None where it was closed.
+    outputs: Vec<Option<File>>,
     read_faults: u64,
     write_faults: u64,
     asked: u64,
@@ -53,24 +55,24 @@ impl<R: Files<File = File> + Print + Drop> FileDesk<R> {
             asked: 0,
         }
     }
-}
 
-// The file of that path, or None where there is none. The system opens a folder too, so that is looked for.
-fn open_input(rt: &impl Files<File = File>, name: &str) -> io::Result<Option<File>> {
-    match fs::open(rt, name) {
-        Ok(file) if file.metadata()?.is_dir() => Err(ErrorKind::IsADirectory.into()),
-        Ok(file) => Ok(Some(file)),
-        Err(e) if e.kind() == ErrorKind::NotFound => Ok(None),
-        Err(e) => Err(e),
+    /// Closes all outputs; what was written to those that are regular files is on the disk before. An `append` to an
+    /// output that was closed fails.
+    pub fn close_outputs(&mut self) -> Result<(), Failed>
+        ensures kept { self.new ≡ record self.old { write_faults = self.new.write_faults } }
+        ensures closed { OnOk result (self.new.write_faults ≡ self.old.write_faults) }
+        ensures counted { OnErr result (self.new.write_faults ≡ min (self.old.write_faults + 1) (2 ^ 64 - 1)) }
+    {
+        let mut failed = false;
+        for output in self.outputs.iter_mut() {
+            failed |= output.take().is_some_and(|file| sync(&file).is_err());
+        }
+        if failed {
+            count_fault(&mut self.write_faults);
+            return Err(Failed);
+        }
+        Ok(())
     }
-}
-
-// Fills the buffer from a place on. A range past the end is an error, an empty one too, for which nothing is read.
-fn fill(file: &File, pos: u64, buf: &mut [u8]) -> io::Result<()> {
-    if buf.is_empty() && file.metadata()?.len() < pos {
-        return Err(ErrorKind::UnexpectedEof.into());
-    }
-    file.read_exact_at(buf, pos)
 }
 
 impl<R: Files<File = File> + Print + Drop> Desk for FileDesk<R> {
@@ -125,16 +127,20 @@ impl<R: Files<File = File> + Print + Drop> Desk for FileDesk<R> {
             count_fault(&mut self.write_faults);
             return Err(DeskFault::Failed);
         };
-        let Ok(file) = fs::create(&self.rt, name) else {
+        let Ok(file) = open_output(&self.rt, name, &self.inputs) else {
             count_fault(&mut self.write_faults);
             return Err(DeskFault::Failed);
         };
-        self.outputs.push(file)?;
+        self.outputs.push(Some(file))?;
         Ok(id)
     }
 
     fn append(&mut self, id: u32, piece: &[u8]) -> Result<(), DeskFault> {
-        if self.outputs[id as usize].write_all(piece).is_err() {
+        let written = match &mut self.outputs[id as usize] {
+            Some(file) => file.write_all(piece).is_ok(),
+            None => false,
+        };
+        if !written {
             count_fault(&mut self.write_faults);
             return Err(DeskFault::Failed);
         }

@@ -7,9 +7,11 @@
 
 mod desk;
 mod entry;
+mod failing;
 mod fault;
 mod file;
 mod mem;
+mod system;
 
 pub use desk::Desk;
 pub use fault::{DeskFault, Failed};

@@ -1,15 +1,15 @@
 // A desk in memory, whose calls can be made to fail (own).
-ghost use Rattle.std.specs.Prelude.{◌≡◌, ◌+◌, ◌-◌, ◌^◌, ◌<◌, ◌≤◌, ◌∷◌, ◌++◌, ◌⊎◌, ◌↔◌, [], length, take, drop, min, OnOk, OnErr, IfOk, IsErr, IsErrOf, IsTrue, Contains};
+ghost use Rattle.std.specs.Prelude.{◌≡◌, ◌-◌, ◌^◌, ◌<◌, ◌∷◌, ◌++◌, [], length, OnOk, OnErr};
 ghost use Rattle.std.specs.Option.{option_copied};
-ghost use Rattle.vid_desk.specs.Meaning.{Told, Finds, Found, Creates, Appends, Says, HasCause, Rose, Stands};
-ghost use Rattle.vid_desk.specs.Memory.{told, IsToFail, CountsCall, faults_after, last_of};
+ghost use Rattle.vid_desk.specs.Memory.{last_of};
 
-use crate::desk::count_fault;
-use crate::entry::{Entry, add_name, bytes_at, extend, last_entry, place_of};
-use crate::{Desk, DeskFault, Failed};
+use crate::entry::{Entry, last_entry};
+use crate::failing::Failing;
 use std::alloc::Global;
 use std::marker::Model;
 use vid_base::NoMem;
+
+mod calls;
 
 /// Inputs, outputs and printed text in memory. It tells everything, and chosen calls of it fail.
 #[derive(Drop)]
@@ -24,13 +24,13 @@ pub struct MemDesk {
     write_faults: u64,
     asked: u64,
     calls: u64,
-    failing: Vec<u64>,
+    failing: Vec<Failing>,
 }
 
 impl Model for MemDesk {
     ghost use Rattle.std.specs.Prelude.{◌<◌, ◌^◌, map, vec_len};
     ghost use Rattle.std.specs.String.{string_bytes};
-    ghost use Rattle.vid_desk.specs.Entry.{file_of};
+    ghost use Rattle.vid_desk.specs.Entry.{failing_of, file_of};
     ghost use Rattle.vid_desk.specs.Memory.{Memory};
 
     ghost Value = { Memory };
@@ -45,7 +45,7 @@ impl Model for MemDesk {
       write_faults = desk.write_faults;
       asked = desk.asked;
       calls = desk.calls;
-      failing = desk.failing.items;
+      failing = map failing_of desk.failing.items;
     } };
 
     ghost invariant = { λ desk. vec_len desk.inputs < 2 ^ 32 };
@@ -95,12 +95,25 @@ impl MemDesk {
         Ok(())
     }
 
-    /// The Desk call of that number is to fail; the calls are counted from 0.
+    /// The Desk call of that number is to fail; the calls are counted from 0. Nothing of its piece stands.
     pub fn fail_at(&mut self, call: u64) -> Result<(), NoMem>
-        ensures added { OnOk result (self.new ≡ record self.old { failing = self.old.failing ++ call ∷ [] }) }
+        ensures added { OnOk result (self.new ≡ record self.old {
+          failing = self.old.failing ++ record { call = call; part = 0 } ∷ [];
+        }) }
         ensures memory { OnErr result (self.new ≡ self.old) }
     {
-        self.failing.push(call)?;
+        self.fail_part_at(call, 0)
+    }
+
+    /// The Desk call of that number is to fail. Where it is an `append` or a `say`, that many first bytes of its piece
+    /// stand all the same. Of two parts for one call the first counts.
+    pub fn fail_part_at(&mut self, call: u64, bytes: usize) -> Result<(), NoMem>
+        ensures added { OnOk result (self.new ≡ record self.old {
+          failing = self.old.failing ++ record { call = call; part = bytes } ∷ [];
+        }) }
+        ensures memory { OnErr result (self.new ≡ self.old) }
+    {
+        self.failing.push(Failing { call, part: bytes })?;
         Ok(())
     }
 
@@ -120,149 +133,46 @@ impl MemDesk {
     {
         &self.said
     }
-}
 
-// Counts a call, and says whether it is to fail.
-fn is_to_fail(calls: &mut u64, failing: &[u64]) -> bool
-    ensures listed { IsTrue result ↔ Contains failing.now calls.old }
-    ensures counted { calls.new ≡ min (calls.old + 1) (2 ^ 64 - 1) }
-{
-    let call = *calls;
-    *calls = call.saturating_add(1);
-    failing.contains(&call)
-}
-
-impl Desk for MemDesk {
-    ghost sees = { told };
-
-    ghost use Rattle.std.proofs.Common.{rules};
-
-    ghost found_in = { λ desk files told. Prim.search rules };
-
-    ghost made_in = { λ desk files told. Prim.search rules };
-
-    fn find(&mut self, name: &str) -> Result<Option<u32>, DeskFault>
-        ensures kept { Finds (told self.old) (told self.new) name.now result }
-        ensures found { IfOk result (Found (told self.new) name.now) }
-        ensures count { length self.old.inputs ≤ length self.new.inputs }
-        ensures cause { HasCause self.old.read_faults self.new.read_faults result }
-        ensures stands { Stands self.old.read_faults self.new.read_faults }
-        ensures fails { IsErrOf result DeskFault.Failed → IsToFail self.old }
-        ensures failed { IsToFail self.old → IsErr result }
-        ensures faults { self.new.read_faults ≡ faults_after self.old.read_faults result }
-        ensures memory { IsErrOf result DeskFault.NoMem → told self.new ≡ told self.old }
-        ensures calls { CountsCall self.old self.new }
+    /// How many faults of reading were counted.
+    pub fn read_faults(&self) -> u64
+        ensures value { result ≡ self.now.read_faults }
     {
-        let to_fail = is_to_fail(&mut self.calls, &self.failing);
-        add_name(&mut self.sought, self.alloc, name)?;
-        if to_fail {
-            count_fault(&mut self.read_faults);
-            return Err(DeskFault::Failed);
-        }
-        Ok(place_of(&self.inputs, name))
+        self.read_faults
     }
 
-    fn size(&mut self, id: u32) -> Result<u64, Failed>
-        requires id { id < length self.old.inputs }
-        ensures kept { told self.new ≡ record (told self.old) { read_faults = self.new.read_faults } }
-        ensures size { IfOk result (λ n. Told (told self.old) id (λ bytes. n ≡ length bytes)) }
-        ensures count { self.old.read_faults ≤ self.new.read_faults }
-        ensures cause { OnErr result (Rose self.old.read_faults self.new.read_faults) }
-        ensures stands { Stands self.old.read_faults self.new.read_faults }
-        ensures fails { IsErr result ↔ IsToFail self.old }
-        ensures faults { OnOk result (self.new.read_faults ≡ self.old.read_faults) }
-        ensures calls { CountsCall self.old self.new }
+    /// How many faults of writing were counted.
+    pub fn write_faults(&self) -> u64
+        ensures value { result ≡ self.now.write_faults }
     {
-        if is_to_fail(&mut self.calls, &self.failing) {
-            count_fault(&mut self.read_faults);
-            return Err(Failed);
-        }
-        Ok(bytes_at(&self.inputs, id as usize).len() as u64)
+        self.write_faults
     }
 
-    fn read_at(&mut self, id: u32, pos: u64, buf: &mut [u8]) -> Result<(), Failed>
-        requires id { id < length self.old.inputs }
-        requires range { Told (told self.old) id (λ bytes. pos + length buf.old ≤ length bytes) }
-        ensures kept { told self.new ≡ record (told self.old) {
-          read_faults = self.new.read_faults;
-          asked = min (self.old.asked + length buf.old) (2 ^ 64 - 1);
-        } }
-        ensures bytes { OnOk result (Told (told self.old) id (λ bytes. buf.new ≡ take (length buf.old) (drop pos bytes))) }
-        ensures asked { self.old.asked ≤ self.new.asked }
-        ensures count { self.old.read_faults ≤ self.new.read_faults }
-        ensures cause { OnErr result (Rose self.old.read_faults self.new.read_faults) }
-        ensures stands { Stands self.old.read_faults self.new.read_faults }
-        ensures fails { IsErr result ↔ IsToFail self.old }
-        ensures faults { OnOk result (self.new.read_faults ≡ self.old.read_faults) }
-        ensures calls { CountsCall self.old self.new }
+    /// How many bytes were asked for by `read_at`.
+    pub fn asked(&self) -> u64
+        ensures value { result ≡ self.now.asked }
     {
-        self.asked = self.asked.saturating_add(buf.len() as u64);
-        if is_to_fail(&mut self.calls, &self.failing) {
-            count_fault(&mut self.read_faults);
-            return Err(Failed);
-        }
-        let from = pos as usize;
-        buf.copy_from_slice(&bytes_at(&self.inputs, id as usize)[from..from + buf.len()]);
-        Ok(())
+        self.asked
     }
 
-    fn create(&mut self, name: &str) -> Result<u32, DeskFault>
-        ensures made { Creates (told self.old) (told self.new) name.now result }
-        ensures count { length self.old.outputs ≤ length self.new.outputs }
-        ensures cause { HasCause self.old.write_faults self.new.write_faults result }
-        ensures stands { Stands self.old.write_faults self.new.write_faults }
-        ensures fails { IsErrOf result DeskFault.Failed → IsToFail self.old ⊎ (2 ^ 32 - 1 ≤ length self.old.outputs) }
-        ensures failed { IsToFail self.old ⊎ (2 ^ 32 - 1 ≤ length self.old.outputs) → IsErr result }
-        ensures faults { self.new.write_faults ≡ faults_after self.old.write_faults result }
-        ensures memory { IsErrOf result DeskFault.NoMem → told self.new ≡ told self.old }
-        ensures calls { CountsCall self.old self.new }
+    /// How many inputs count as found: all that were added.
+    pub fn found(&self) -> u64
+        ensures value { result ≡ length self.now.inputs }
     {
-        let to_fail = is_to_fail(&mut self.calls, &self.failing);
-        if to_fail || self.outputs.len() >= u32::MAX as usize {
-            add_name(&mut self.named, self.alloc, name)?;
-            count_fault(&mut self.write_faults);
-            return Err(DeskFault::Failed);
-        }
-        let output = Entry::new(self.alloc, name, &[])?;
-        self.outputs.reserve(1)?;
-        add_name(&mut self.named, self.alloc, name)?;
-        let id = self.outputs.len() as u32;
-        self.outputs.push(output).unwrap();
-        Ok(id)
+        self.inputs.len() as u64
     }
 
-    fn append(&mut self, id: u32, piece: &[u8]) -> Result<(), DeskFault>
-        requires id { id < length self.old.outputs }
-        ensures appended { Appends (told self.old) (told self.new) id piece.now result }
-        ensures cause { HasCause self.old.write_faults self.new.write_faults result }
-        ensures stands { Stands self.old.write_faults self.new.write_faults }
-        ensures fails { IsErrOf result DeskFault.Failed ↔ IsToFail self.old }
-        ensures faults { self.new.write_faults ≡ faults_after self.old.write_faults result }
-        ensures memory { IsErrOf result DeskFault.NoMem → told self.new ≡ told self.old }
-        ensures calls { CountsCall self.old self.new }
+    /// How many outputs were made.
+    pub fn made(&self) -> u64
+        ensures value { result ≡ length self.now.outputs }
     {
-        if is_to_fail(&mut self.calls, &self.failing) {
-            count_fault(&mut self.write_faults);
-            return Err(DeskFault::Failed);
-        }
-        extend(&mut self.outputs, id as usize, piece)?;
-        Ok(())
+        self.outputs.len() as u64
     }
 
-    fn say(&mut self, piece: &[u8]) -> Result<(), DeskFault>
-        ensures said { Says (told self.old) (told self.new) piece.now result }
-        ensures cause { HasCause self.old.write_faults self.new.write_faults result }
-        ensures stands { Stands self.old.write_faults self.new.write_faults }
-        ensures fails { IsErrOf result DeskFault.Failed ↔ IsToFail self.old }
-        ensures faults { self.new.write_faults ≡ faults_after self.old.write_faults result }
-        ensures memory { IsErrOf result DeskFault.NoMem → told self.new ≡ told self.old }
-        ensures calls { CountsCall self.old self.new }
+    /// How many calls of `Desk` came, those that failed among them.
+    pub fn calls(&self) -> u64
+        ensures value { result ≡ self.now.calls }
     {
-        if is_to_fail(&mut self.calls, &self.failing) {
-            count_fault(&mut self.write_faults);
-            return Err(DeskFault::Failed);
-        }
-        self.said.extend_from_slice(piece)?;
-        Ok(())
+        self.calls
     }
 }
