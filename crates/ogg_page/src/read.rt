@@ -8,7 +8,7 @@ use crate::{PageFault, PageRef, checksum};
 use byteorder::{ByteOrder, LittleEndian};
 
 // The sum of lacing bytes, which is the length of the body.
-fn total(lacing: &[u8]) -> usize
+pub(crate) fn total(lacing: &[u8]) -> usize
     requires { length lacing.now ≤ 255 }
     ensures sum { result ≡ sum lacing.now }
     ensures bound { result ≤ 255 * 255 }
