@@ -62,9 +62,6 @@ holds_on known front (piece ∷ pieces) h on =
     ] on.0
 
 -- of a page
-pub holds_on_page : (known : Progress) (front lacing body : List ℕ) → sum lacing ≡ length body → Holds known front → Holds (after_pieces known (segments lacing body)) (left_from front (segments lacing body))
-holds_on_page known front lacing body shape h = holds_on known front (segments lacing body) h (segments_go_on lacing body shape)
-
 pub last_key_of_page : (known : Progress) (front lacing body : List ℕ) → sum lacing ≡ length body → Holds known front
     → (after_pieces known (segments lacing body)).last_key ≡ last_key_among known.packets known.last_key (packets_from front (segments lacing body))
 last_key_of_page known front lacing body shape h = last_key_of_packets known front (segments lacing body) h (segments_go_on lacing body shape)

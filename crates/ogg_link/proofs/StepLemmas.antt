@@ -1,14 +1,16 @@
 -- A page without a fault: the definition of a step as a function of its checks. Written streams, whose pages a walk goes over, cite these.
-use Rattle.std.proofs.Common.{◌≡◌, ℕ, Bool, true, false, not, ◌||◌, ◌&&◌, List, [], ◌∷◌, length, nat_lt, Result, Ok, Err, if◌then◌else◌, refl, sym, ap, ◌∙◌, arith, eq-eqb, lt-ltb, true≢false, is_none}
+use Rattle.std.proofs.Common.{◌≡◌, ℕ, Bool, true, false, not, ◌||◌, ◌&&◌, List, [], ◌∷◌, length, sum, nat_lt, Result, Ok, Err, if◌then◌else◌, refl, sym, ap, subst, ◌∙◌, arith, eq-eqb, lt-ltb, true≢false, is_none}
 use Rattle.ogg_page.specs.Page.{Page}
+use Rattle.ogg_page.specs.Packets.{Piece, segments, left_from}
 use Rattle.ogg_link.specs.declared.state.State.{State}
 use Rattle.ogg_link.specs.declared.fault.LinkFault.{LinkFault}
 use Rattle.ogg_link.specs.declared.fault.LinkFault.TheVariants.{MissingPage, BadContinued, NoTrack, HeadersNotAlone, DataAfterEnd, Chained}
 use Rattle.ogg_link.specs.Flags.{is_continued, is_first}
-use Rattle.ogg_link.specs.Progress.{is_crowded}
-use Rattle.ogg_link.specs.Walk.{step, track_step, is_of_track, is_missing, is_badly_continued, is_shared, passed_by}
+use Rattle.ogg_link.specs.Progress.{after_pieces, is_crowded, GoOn, Holds}
+use Rattle.ogg_link.specs.Walk.{start, step, track_step, is_of_track, is_missing, is_badly_continued, is_shared, passed_by}
 use Rattle.ogg_link.specs.Faultless.{Follows, Begins, stepped}
-use Rattle.ogg_link.specs.Parts.{parts_from, parts_of}
+use Rattle.ogg_link.specs.Parts.{parts_from, parts_of, lacing_if}
+use Rattle.ogg_link.proofs.KeyLemmas.{segments_go_on, holds_on}
 
 -- the first check that fails, or what is known after a page of the track or of another stream
 pub checks : Bool → Bool → Bool → Bool → Bool → Bool → Bool → Bool → State → State → Result State LinkFault
@@ -77,6 +79,45 @@ goes_on_well false false true true e f g h after passed next ok t = cc
 goes_on_well false false true false true f g h after passed next ok t = cc
 goes_on_well false false true false false true g h after passed next ok t = cc
 goes_on_well false false true false false false g h after passed next ok t = refl
+
+next_is : (a b c d e f g h : Bool) (after passed next : State) → checks a b c d e f g h after passed ≡ Ok next → next ≡ (if c then after else passed)
+unfolding checks
+next_is true b c d e f g h after passed next ok = cc
+next_is false true c d e f g h after passed next ok = cc
+next_is false false false d e f g h after passed next ok = cc
+next_is false false true true e f g h after passed next ok = cc
+next_is false false true false true f g h after passed next ok = cc
+next_is false false true false false true g h after passed next ok = cc
+next_is false false true false false false true h after passed next ok = cc
+next_is false false true false false false false true after passed next ok = cc
+next_is false false true false false false false false after passed next ok = cc
+
+-- behind a page without a fault its packets are known; a page of another stream has none
+pub progress_behind : (state next : State) (page : Page) → step state page ≡ Ok next
+    → next.progress ≡ after_pieces state.progress (segments (lacing_if (is_of_track state page) page.lacing) page.body)
+unfolding after_pieces segments
+progress_behind state next page ok =
+    ap (λ s. s.progress) (next_is _ _ (is_of_track state page) _ _ _ _ _ (stepped state page) (passed_by state page) next (sym (by_checks state page) ∙ ok))
+    ∙ elim (is_of_track state page) as (λ b. (if◌then◌else◌ {A = State} b (stepped state page) (passed_by state page)).progress ≡ after_pieces state.progress (segments (lacing_if b page.lacing) page.body)) [
+      | true ↦ refl
+      | false ↦ refl
+    ]
+
+-- before the first page no packet is unfinished
+pub start_holds : Holds start.progress []
+start_holds = record { whole = λ _. refl; begun = λ e. absurd (true≢false (sym e)); key = λ e. absurd (true≢false (sym e)) }
+
+track_go_on : (track : Bool) (lacing body : List ℕ) → sum lacing ≡ length body → GoOn (segments (lacing_if track lacing) body)
+unfolding segments GoOn
+track_go_on true lacing body shape = segments_go_on lacing body shape
+track_go_on false lacing body shape = tt
+
+-- what a walk knows behind a page is of the packet that is then unfinished
+pub walk_holds : (state next : State) (page : Page) (front : List ℕ) → sum page.lacing ≡ length page.body → step state page ≡ Ok next → Holds state.progress front
+    → Holds next.progress (left_from front (segments (lacing_if (is_of_track state page) page.lacing) page.body))
+walk_holds state next page front shape ok h =
+    let pieces : List Piece = segments (lacing_if (is_of_track state page) page.lacing) page.body in
+    subst (λ known. Holds known (left_from front pieces)) (sym (progress_behind state next page ok)) (holds_on state.progress front pieces h (track_go_on (is_of_track state page) page.lacing page.body shape))
 
 flag_tells : (a b : Bool) (lacing : List ℕ) → nat_lt 0 (length lacing) && (if a then not b else b) ≡ false → parts_of a lacing ≡ parts_of b lacing
 unfolding parts_from

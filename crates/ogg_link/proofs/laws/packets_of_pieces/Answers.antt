@@ -1,6 +1,6 @@
 use Rattle.ogg_link.proofs.ProgressLemmas.{packets_counted}
-use Rattle.ogg_link.proofs.KeyLemmas.{last_key_of_page, unfinished_by_last, holds_on_page}
-use Rattle.ogg_link.proofs.laws.packets_behind_a_page.Goals as goal
+use Rattle.ogg_link.proofs.KeyLemmas.{last_key_of_page, unfinished_by_last, holds_on}
+use Rattle.ogg_link.proofs.laws.packets_of_pieces.Goals as goal
 
 pub returns-clause-counted : goal.returns-clause-counted
 returns-clause-counted c = packets_counted
@@ -12,4 +12,4 @@ pub returns-clause-unfinished : goal.returns-clause-unfinished
 returns-clause-unfinished c = unfinished_by_last
 
 pub returns-clause-holds : goal.returns-clause-holds
-returns-clause-holds c = holds_on_page
+returns-clause-holds c = holds_on
