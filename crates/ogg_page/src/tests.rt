@@ -1,3 +1,6 @@
+ghost use Rattle.std.specs.Prelude.{IfOk};
+ghost use Rattle.ogg_page.specs.Page.{HasShape};
+
 use crate::read::total;
 use crate::*;
 use std::alloc::Global;
@@ -48,13 +51,16 @@ fn written(rt: &impl Abort, alloc: Global, made: &Made) -> Vec<u8> {
     out
 }
 
-fn check_page(rt: &impl Abort, read: Result<PageRef, PageFault>, made: &Made) {
+fn check_page(rt: &impl Abort, read: Result<PageRef, PageFault>, made: &Made)
+    requires { IfOk read (λ page. HasShape page.lacing.now page.body.now) }
+{
     let (flags, granule, serial, number, lacing, body) = *made;
     match read {
         Ok(page) => {
             assert!(rt; page.flags == flags && page.granule == granule);
             assert!(rt; page.serial == serial && page.number == number);
             assert!(rt; page.lacing == lacing && page.body == body);
+            assert!(rt; page.size() == 27 + lacing.len() + body.len());
         }
         Err(fault) => assert!(rt; false, "{}", fault.name()),
     }
