@@ -5,7 +5,7 @@ use Rattle.std.proofs.Math.Nat.{mul-le-mul_left, mod-eq_of_lt}
 use Rattle.std.proofs.lemmas.Nat.{div-mul-add, mod-mul-add}
 use Rattle.ogg_page.specs.Granule.{granule_of}
 use Rattle.ogg_link.specs.declared.state.State.{State}
-use Rattle.ogg_link.specs.Granules.{last_frame, against_base, against_key, settled}
+use Rattle.ogg_link.specs.Granules.{IsLater, last_frame, against_base, against_key, settled}
 
 pub unit_small : (s : ℕ) → s ≤ 31 → 2 ^ s ≤ 2 ^ 31
 unit_small s h = pow_mono h
@@ -35,3 +35,20 @@ settled_right state base shift key known settles last position near =
       | inl none ↦ ap (against_base state shift key) none ∙ base_told state base shift key position near
       | inr some ↦ ap (against_base state shift key) some ∙ rw (eq-eqb state.granule _ position) (λ i. Ok (record state { base = some i }))
     ]
+
+-- the key frame and the frames since it are told by a position
+pub told_back : (base shift key frame position : ℕ) → position ≡ granule_of base shift key frame → frame - key < 2 ^ shift → (position / 2 ^ shift - base ≡ key) × (position % 2 ^ shift ≡ frame - key)
+told_back base shift key frame position is near =
+    let over : ℕ = frame - key in
+    let q : position / 2 ^ shift ≡ base + key = rw is (div-mul-add (base + key) (2 ^ shift) over near) in
+    (omega (arith, q), rw is (mod-mul-add (base + key) (2 ^ shift) over near))
+
+-- later frames have greater positions
+pub positions_rise : (base shift key frame later_key later : ℕ) → key ≤ frame → frame - key < 2 ^ shift → IsLater key frame later_key later → granule_of base shift key frame < granule_of base shift later_key later
+positions_rise base shift key frame later_key later h near is = elim is.of_key [
+  | inl same ↦ rw same (omega (arith, is.behind))
+  | inr behind ↦
+      let unit : ℕ = 2 ^ shift in
+      let more : unit * (base + key + 1) ≤ unit * (base + later_key) = mul-le-mul_left unit (omega arith) in
+      omega (arith, more)
+]

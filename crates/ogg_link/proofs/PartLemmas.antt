@@ -7,7 +7,7 @@ use Rattle.std.proofs.lemmas.List.Elements.{All-nil, All-cons}
 use Rattle.std.proofs.lemmas.List.Sums.{sum_by-cons}
 use Rattle.ogg_page.specs.Packets.{segments, packets_from, left_from}
 use Rattle.ogg_link.specs.declared.part.Part.{Part}
-use Rattle.ogg_link.specs.Parts.{parts_from, IsWithin, pieces_of, Joins}
+use Rattle.ogg_link.specs.Parts.{parts_from, IsWithin, StartBehindEnds, pieces_of, Joins}
 
 pub parts_from_within : (first at : ℕ) (starts : Bool) (ns : List ℕ) (bound : ℕ) → first ≤ at → at + sum ns ≤ bound → All (IsWithin bound) (parts_from first at starts ns)
 unfolding parts_from
@@ -89,6 +89,25 @@ parts_from_join starts ns body = record {
 
 pub parts_join : (parts : List Part) (starts : Bool) (ns body : List ℕ) → parts ≡ parts_from 0 0 starts ns → Joins parts ns body
 parts_join parts starts ns body e = rw e (parts_from_join starts ns body)
+
+starts_from : (first at : ℕ) (starts : Bool) (ns : List ℕ) → StartBehindEnds starts (parts_from first at starts ns)
+unfolding parts_from StartBehindEnds
+starts_from first at starts [] =
+    elim (nat_lt first at) as (λ b. StartBehindEnds starts (if b then record { first = first; past = at; starts = starts; ends = false } ∷ [] else [])) [ true ↦ (refl, tt) | false ↦ tt ]
+starts_from first at starts (n ∷ ns) =
+    elim (nat_lt n 255) as (λ b. StartBehindEnds starts (if b then record { first = first; past = at + n; starts = starts; ends = true } ∷ parts_from (at + n) (at + n) true ns else parts_from first (at + n) starts ns)) [
+      | true ↦ (refl, starts_from (at + n) (at + n) true ns)
+      | false ↦ starts_from first (at + n) starts ns
+    ]
+
+-- a part starts a packet where the one before ends
+pub parts_start : (parts : List Part) (starts : Bool) (ns : List ℕ) → parts ≡ parts_from 0 0 starts ns → StartBehindEnds starts parts
+parts_start parts starts ns e = rw e (starts_from 0 0 starts ns)
+
+-- no part starts where there is none
+pub nothing_starts : (whole : Bool) → StartBehindEnds whole []
+unfolding StartBehindEnds
+nothing_starts whole = tt
 
 -- no parts where there are no segments
 pub nothing_joins : (body : List ℕ) → Joins [] [] body

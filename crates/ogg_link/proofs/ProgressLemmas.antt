@@ -1,9 +1,12 @@
 -- Headers that are not crowded, and the packets of pieces one behind the other. Written streams, whose pages a walk goes over, cite these.
-use Rattle.std.proofs.Common.{◌≡◌, ℕ, min, ◌+◌, ◌-◌, ◌^◌, ◌≤◌, Bool, true, false, List, [], ◌∷◌, ◌++◌, length, take, drop, nat_lt, if◌then◌else◌, ◌==◌, refl, arith, ne_eqb}
+use Rattle.std.proofs.Common.{◌≡◌, ℕ, zero, suc, min, ◌+◌, ◌-◌, ◌/◌, ◌%◌, ◌^◌, ◌<◌, ◌≤◌, Bool, true, false, List, [], ◌∷◌, ◌++◌, length, length-append, replicate, take, drop, sum, nat_lt, if◌then◌else◌, ◌==◌, refl, arith, ne_eqb, lt-ltb}
+use Rattle.std.proofs.lemmas.List.{length-replicate}
+use Rattle.std.proofs.lemmas.List.Folds.{sum_by-replicate}
+use Rattle.std.proofs.lemmas.List.Sums.{sum_by-append, sum_by-cons}
 use Rattle.ogg_page.specs.Packets.{Piece, segments, packets_from}
 use Rattle.ogg_page.specs.Granule.{is_key}
 use Rattle.ogg_link.specs.declared.state.Progress.{Progress}
-use Rattle.ogg_link.specs.Progress.{one_more, key_after, after_piece, after_pieces, is_crowded}
+use Rattle.ogg_link.specs.Progress.{one_more, key_after, after_piece, after_pieces, is_alone, is_crowded, lacing_of}
 
 -- behind the headers nothing is crowded
 pub not_crowded : (packets : ℕ) (lacing : List ℕ) → 3 ≤ packets → is_crowded packets lacing ≡ false
@@ -77,3 +80,20 @@ packets_counted known front (piece ∷ pieces) h =
       | true ↦ omega (arith, packets_counted (after_piece known (record { bytes = piece.bytes; ends = true })) [] pieces (omega arith))
       | false ↦ packets_counted (after_piece known (record { bytes = piece.bytes; ends = false })) (front ++ piece.bytes) pieces h
     ]
+
+alone_behind : (k n : ℕ) → n < 255 → is_alone (replicate k 255 ++ n ∷ []) ≡ true
+unfolding is_alone
+alone_behind zero n h = rw (lt-ltb n 255 h) refl
+alone_behind (suc k) n h = alone_behind k n h
+
+-- a packet stands alone behind its lacing values
+pub packet_alone : (size : ℕ) → is_alone (lacing_of size) ≡ true
+packet_alone size = alone_behind (size / 255) (size % 255) (omega arith)
+
+-- a packet below 65,025 bytes has at most 255 lacing values
+pub packet_fits : (size : ℕ) → size < 65025 → length (lacing_of size) ≤ 255
+packet_fits size h = omega (arith, length-append (replicate (size / 255) 255) (size % 255 ∷ []), length-replicate {A = ℕ} (size / 255) 255)
+
+-- they count its bytes
+pub packet_counted : (size : ℕ) → sum (lacing_of size) ≡ size
+packet_counted size = omega (arith, sum_by-append (λ n. n) (replicate (size / 255) 255) (size % 255 ∷ []), sum_by-replicate (λ n. n) (size / 255) 255, sum_by-cons (λ n. n) (size % 255) [])

@@ -1,9 +1,14 @@
 -- The granule position of a page, against that of the last frame that ends on it (Theora I, A.2.3).
-use Rattle.std.specs.Prelude.{ℕ, ◌-◌, ◌/◌, ◌%◌, ◌^◌, not, ◌||◌, Option, Some, None, Result, Ok, Err, ◌==◌, nat_lt, if◌then◌else◌}
+use Rattle.std.specs.Prelude.{◌≡◌, ◌⊎◌, ◌<◌, ℕ, ◌-◌, ◌/◌, ◌%◌, ◌^◌, not, ◌||◌, Option, Some, None, Result, Ok, Err, ◌==◌, nat_lt, if◌then◌else◌}
 use Rattle.ogg_page.specs.Granule.{granule_of}
 use Rattle.ogg_link.specs.declared.state.State.{State}
 use Rattle.ogg_link.specs.declared.fault.LinkFault.{LinkFault}
 use Rattle.ogg_link.specs.declared.fault.LinkFault.TheVariants.{BadGranule}
+
+-- a frame behind another, with the same last key frame or with one that is behind it too
+pub record IsLater (key frame later_key later : ℕ) : Type 0 where
+  pub behind : frame < later
+  pub of_key : (later_key ≡ key) ⊎ (frame < later_key)
 
 -- the frame whose packet was the last to end, behind three headers
 abbrev pub last_frame : State → ℕ

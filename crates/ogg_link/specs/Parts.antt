@@ -19,6 +19,11 @@ parts_of unfinished lacing = parts_from 0 0 (not unfinished) lacing
 abbrev pub IsWithin : ℕ → Part → Type 0
 IsWithin size part = (part.first ≤ part.past) × (part.past ≤ size)
 
+-- the first part starts a packet where none was unfinished before it, and each later part where the part before it ends one
+unfoldable pub StartBehindEnds : Bool → List Part → Type 0
+StartBehindEnds whole [] = Unit {0}
+StartBehindEnds whole (part ∷ parts) = (part.starts ≡ whole) × StartBehindEnds part.ends parts
+
 -- the bytes of a part, and whether the packet ends with them
 abbrev pub piece_of : List ℕ → Part → Piece
 piece_of body part = record { bytes = take (part.past - part.first) (drop part.first body); ends = part.ends }

@@ -1,5 +1,6 @@
 -- How far the packets of a track have come: headers, frames, and the last key frame (Theora I, A.2).
-use Rattle.std.specs.Prelude.{ℕ, min, ◌+◌, ◌-◌, ◌^◌, Bool, true, false, ◌&&◌, List, [], ◌∷◌, length, Option, Some, ◌==◌, nat_lt, if◌then◌else◌}
+use Rattle.std.specs.Prelude.{◌≡◌, ℕ, min, ◌+◌, ◌-◌, ◌/◌, ◌%◌, ◌^◌, ◌<◌, Bool, true, false, not, ◌&&◌, List, [], ◌∷◌, ◌++◌, length, replicate, Option, Some, None, ◌==◌, nat_lt, if◌then◌else◌}
+use Rattle.std.specs.List.{last_or}
 use Rattle.ogg_page.specs.Packets.{Piece}
 use Rattle.ogg_page.specs.Granule.{is_key}
 use Rattle.ogg_link.specs.declared.state.Progress.{Progress}
@@ -32,6 +33,30 @@ after_piece known piece =
 unfoldable pub after_pieces : Progress → List Piece → Progress
 after_pieces known [] = known
 after_pieces known (piece ∷ pieces) = after_pieces (after_piece known piece) pieces
+
+-- each piece behind which its packet goes on has a byte
+unfoldable pub GoOn : List Piece → Type 0
+GoOn [] = Unit {0}
+GoOn (piece ∷ pieces) = (piece.ends ≡ false → 0 < length piece.bytes) × GoOn pieces
+
+-- the unfinished packet is `front`
+pub record Holds (known : Progress) (front : List ℕ) : Type 0 where
+  pub whole : known.unfinished ≡ false → front ≡ []
+  pub begun : known.unfinished ≡ true → 0 < length front
+  pub key : known.unfinished ≡ true → known.key ≡ is_key front
+
+-- a lacing value of 255 leaves a packet unfinished; without one it is as before
+abbrev pub unfinished_by : Bool → Option ℕ → Bool
+unfinished_by before None = before
+unfinished_by before (Some n) = not (nat_lt n 255)
+
+-- behind lacing values the last of them decides
+abbrev pub unfinished_behind : Bool → List ℕ → Bool
+unfinished_behind before lacing = unfinished_by before (last_or None lacing)
+
+-- the lacing values of a packet of so many bytes
+abbrev pub lacing_of : ℕ → List ℕ
+lacing_of size = replicate (size / 255) 255 ++ (size % 255) ∷ []
 
 -- the lacing values are those of one whole packet
 unfoldable pub is_alone : List ℕ → Bool

@@ -2,7 +2,7 @@
 ghost use Rattle.std.specs.Prelude.{◌≡◌};
 ghost use Rattle.ogg_link.specs.Faults.{number_of, name_of};
 
-use std::alloc::AllocFailed;
+use vid_base::NoMem;
 
 /// The first thing that is wrong with a link.
 #[derive(Clone, Copy, Debug, PartialEq, Eq)]
@@ -67,12 +67,12 @@ pub enum LinkRefusal {
     NoMem,
 }
 
-impl<T: Drop> From<AllocFailed<T>> for LinkRefusal {
-    ghost use Rattle.ogg_link.specs.declared.fault.LinkRefusal.TheVariants.{NoMem};
+impl From<NoMem> for LinkRefusal {
+    ghost use Rattle.ogg_link.specs.declared.fault.LinkRefusal.TheVariants.{NoMem as WantsMemory};
 
-    ghost from_gives = { λ _ refusal. refusal ≡ NoMem };
+    ghost from_gives = { λ _ refusal. refusal ≡ WantsMemory };
 
-    fn from(_: AllocFailed<T>) -> Self {
+    fn from(_: NoMem) -> Self {
         LinkRefusal::NoMem
     }
 }

@@ -1,7 +1,7 @@
 // Granule positions of frames (Theora I, A.2.3).
-ghost use Rattle.std.specs.Prelude.{◌≡◌, ◌≤◌, ◌<◌, ◌+◌, ◌-◌, ◌^◌, ◌↔◌, IsNone, IfSome, IfErr};
+ghost use Rattle.std.specs.Prelude.{◌≡◌, ◌≤◌, ◌<◌, ◌+◌, ◌-◌, ◌/◌, ◌%◌, ◌^◌, ◌↔◌, ℕ, IsNone, IfSome, IfErr};
 ghost use Rattle.ogg_page.specs.Granule.{granule_of};
-ghost use Rattle.ogg_link.specs.Granules.{settled as settled_of};
+ghost use Rattle.ogg_link.specs.Granules.{settled as settled_of, IsLater};
 
 use crate::progress::HEADERS;
 use crate::{LinkFault, State};
@@ -24,6 +24,9 @@ pub fn granule(base: u64, key: u32, frame: u32, shift: u8) -> Option<u64>
     requires key { key ≤ frame }
     requires shift { shift ≤ 31 }
     ensures value { IfSome result (λ position. position ≡ granule_of base shift key frame) }
+    // The position of a frame near its key frame tells both, and is below that of each later frame.
+    ensures back { frame - key < 2 ^ shift → IfSome result (λ position. (position / 2 ^ shift - base ≡ key) × (position % 2 ^ shift ≡ frame - key)) }
+    ensures rises { frame - key < 2 ^ shift → (later_key later : ℕ) → IsLater key frame later_key later → IfSome result (λ position. position < granule_of base shift later_key later) }
     ensures none { IsNone result ↔ (2 ^ 64 - 2 < granule_of base shift key frame) }
 {
     let position = position(base, u64::from(key), u64::from(frame), shift);

@@ -1,14 +1,13 @@
 // A page in its place in the link, and the end of the file (RFC 3533, 4 to 6).
-ghost use Rattle.std.specs.Prelude.{◌≡◌, ◌<◌, length, IfOk, IfErr, IsOk, All};
+ghost use Rattle.std.specs.Prelude.{◌≡◌, ◌<◌, not, length, IfOk, IfErr, IsOk, All};
 ghost use Rattle.ogg_page.specs.Page.{HasShape, view};
 ghost use Rattle.ogg_link.specs.Flags.{has_flag as has_flag_in};
-ghost use Rattle.ogg_link.specs.Parts.{parts_of, IsWithin, Joins, lacing_if};
+ghost use Rattle.ogg_link.specs.Parts.{parts_of as parts_in, IsWithin, StartBehindEnds, Joins, lacing_if};
 ghost use Rattle.ogg_link.specs.Walk.{step as step_of, track_step as track_step_of, ended as ended_of, is_of_track as is_of_track_in, is_badly_continued as is_badly_continued_in, is_shared as is_shared_in};
 ghost use Rattle.ogg_link.specs.Walked.{BringsParts, Refuses};
 
-use crate::part::parts;
 use crate::progress::{HEADERS, after_page, is_alone, is_crowded};
-use crate::{LinkFault, LinkRefusal, Part, State};
+use crate::{LinkFault, LinkRefusal, Part, State, parts_of};
 use ogg_page::PageRef;
 use std::alloc::Global;
 
@@ -64,11 +63,12 @@ fn track_step(
 ) -> Result<(State, Vec<Part>), LinkRefusal>
     requires { HasShape page.now.lacing.now page.now.body.now }
     ensures step { IfOk result (λ taken. track_step_of state.now (view page.now) ≡ Ok taken.0) }
-    ensures parts { IfOk result (λ taken. taken.1.items ≡ parts_of state.now.progress.unfinished page.now.lacing.now) }
+    ensures parts { IfOk result (λ taken. taken.1.items ≡ parts_in state.now.progress.unfinished page.now.lacing.now) }
     ensures joined { IfOk result (λ taken. Joins taken.1.items page.now.lacing.now page.now.body.now) }
+    ensures starts { IfOk result (λ taken. StartBehindEnds (not state.now.progress.unfinished) taken.1.items) }
     ensures within { IfOk result (λ taken. All (IsWithin (length page.now.body.now)) taken.1.items) }
     ensures fault { IfErr result (λ refusal. Refuses refusal (track_step_of state.now (view page.now))) }
-    ensures needed { result ≡ Err LinkRefusal.NoMem → IsOk (track_step_of state.now (view page.now)) × (0 < length (parts_of state.now.progress.unfinished page.now.lacing.now)) }
+    ensures needed { result ≡ Err LinkRefusal.NoMem → IsOk (track_step_of state.now (view page.now)) × (0 < length (parts_in state.now.progress.unfinished page.now.lacing.now)) }
 {
     if state.closed {
         return Err(LinkRefusal::Bad(LinkFault::DataAfterEnd));
@@ -82,7 +82,7 @@ fn track_step(
     if is_shared(state, page) || is_crowded(state.progress.packets, page.lacing) {
         return Err(LinkRefusal::Bad(LinkFault::HeadersNotAlone));
     }
-    let parts = parts(alloc, state.progress.unfinished, page)?;
+    let parts = parts_of(alloc, page, state.progress.unfinished)?;
     let progress = after_page(state.progress, page.lacing, page.body);
     let next = State {
         begun: true,
@@ -99,7 +99,7 @@ fn track_step(
 }
 
 // The next page of the file.
-#[tactic(auto, using(crate::proofs::PartLemmas::nothing_joins), unfolding(crate::specs::Walk::step, crate::specs::Parts::parts_from))]
+#[tactic(auto, using(crate::proofs::PartLemmas::nothing_joins, crate::proofs::PartLemmas::nothing_starts), unfolding(crate::specs::Walk::step, crate::specs::Parts::parts_from))]
 pub(crate) fn step(
     alloc: Global,
     state: &State,
@@ -107,8 +107,9 @@ pub(crate) fn step(
 ) -> Result<(State, Vec<Part>), LinkRefusal>
     requires { HasShape page.now.lacing.now page.now.body.now }
     ensures step { IfOk result (λ taken. step_of state.now (view page.now) ≡ Ok taken.0) }
-    ensures parts { IfOk result (λ taken. taken.1.items ≡ parts_of state.now.progress.unfinished (lacing_if (is_of_track_in state.now (view page.now)) page.now.lacing.now)) }
+    ensures parts { IfOk result (λ taken. taken.1.items ≡ parts_in state.now.progress.unfinished (lacing_if (is_of_track_in state.now (view page.now)) page.now.lacing.now)) }
     ensures joined { IfOk result (λ taken. Joins taken.1.items (lacing_if (is_of_track_in state.now (view page.now)) page.now.lacing.now) page.now.body.now) }
+    ensures starts { IfOk result (λ taken. StartBehindEnds (not state.now.progress.unfinished) taken.1.items) }
     ensures within { IfOk result (λ taken. All (IsWithin (length page.now.body.now)) taken.1.items) }
     ensures fault { IfErr result (λ refusal. Refuses refusal (step_of state.now (view page.now))) }
     ensures needed { result ≡ Err LinkRefusal.NoMem → BringsParts state.now (view page.now) }

@@ -313,15 +313,27 @@ fn the_first_position_tells_the_base_and_the_later_ones_are_compared_as_numbers(
     assert_eq!(rt; granule(GREATEST, 1, 1, 0), None);
 }
 
-// The parts that the last of these pages brings.
+// Whether the page has these parts where its own flag 1 tells what was unfinished.
+fn are_parts_of(alloc: Global, page: &PageRef, parts: &[Part]) -> bool
+    requires { HasShape page.now.lacing.now page.now.body.now }
+{
+    match parts_of(alloc, page, page.flags % 2 == 1) {
+        Ok(found) => found.as_slice() == parts,
+        Err(_) => false,
+    }
+}
+
+// The parts that the last of these pages brings, with a walk or without.
 fn last_parts(rt: &impl Abort, alloc: Global, pages: &[Made]) -> Vec<Part> {
     let mut walk = Walk::new(alloc);
     let mut last = Vec::new(alloc);
     for (i, made) in pages.iter().enumerate() {
-        match walk.page(&page_of(rt, made)) {
+        let page = page_of(rt, made);
+        match walk.page(&page) {
             Ok(events) => {
                 assert!(rt; events.new_link == (i == 0));
                 assert!(rt; events.track == (made.2 == 1));
+                assert!(rt; !events.track || are_parts_of(alloc, &page, &events.parts));
                 last = events.parts;
             }
             Err(_) => assert!(rt; false, "the pages have no fault"),
@@ -376,6 +388,26 @@ fn a_packet_goes_on_from_page_to_page_until_a_lacing_value_below_255(rt: HostRun
                 "{name}"
             );
         }
+    }
+}
+
+#[test]
+fn a_page_has_at_most_255_parts_and_one_of_at_most_65025_bytes(rt: HostRuntime) {
+    let empty: Made = (0, 0, 1, 2, &[0; 255], &[]);
+    let found = last_parts(&rt, rt.alloc(), &[IDENT, TABLES, empty]);
+    assert!(rt; found.len() == 255);
+    for part in &found {
+        assert!(rt; part.past == 0 && part.starts && part.ends);
+    }
+    let mut body = Vec::new(rt.alloc());
+    for _ in 0..255 {
+        assert!(rt; body.extend_from_slice(&FILL).is_ok());
+    }
+    let full: Made = (0, 0, 1, 2, &[255; 255], &body);
+    let found = last_parts(&rt, rt.alloc(), &[IDENT, TABLES, full]);
+    assert!(rt; found.len() == 1);
+    for part in &found {
+        assert!(rt; part.past == 65025 && part.starts && !part.ends);
     }
 }
 

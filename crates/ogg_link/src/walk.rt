@@ -2,7 +2,7 @@
 ghost use Rattle.std.specs.Prelude.{◌≡◌, ◌≤◌, None, Some, not, length, IfOk, IfErr, IfSome, All};
 ghost use Rattle.ogg_page.specs.Page.{HasShape, view};
 ghost use Rattle.ogg_link.specs.Granules.{settled as settled_of};
-ghost use Rattle.ogg_link.specs.Parts.{parts_of, IsWithin, Joins, lacing_if};
+ghost use Rattle.ogg_link.specs.Parts.{parts_of, IsWithin, StartBehindEnds, Joins, lacing_if};
 ghost use Rattle.ogg_link.specs.Walk.{start, step as step_of, ended as ended_of, is_of_track as is_of_track_in};
 ghost use Rattle.ogg_link.specs.Walked.{BringsParts, Moves, MovesOrNoMem};
 
@@ -71,6 +71,8 @@ impl Walk {
         ensures new_link { IfOk result (λ events. events.new_link ≡ not self.old.state.begun) }
 
         ensures parts { IfOk result (λ events. events.parts.items ≡ parts_of self.old.state.progress.unfinished (lacing_if events.track page.now.lacing.now)) }
+        // A part starts a packet where the part before it ends one; the first, where none was unfinished.
+        ensures starts { IfOk result (λ events. StartBehindEnds (not self.old.state.progress.unfinished) events.parts.items) }
         ensures within { IfOk result (λ events. All (IsWithin (length page.now.body.now)) events.parts.items) }
         // Whatever packet was unfinished before the page, its parts make the packets that its segments make.
         ensures joined { IfOk result (λ events. Joins events.parts.items (lacing_if events.track page.now.lacing.now) page.now.body.now) }

@@ -3,6 +3,7 @@ pub mod DivisionLemmas
 pub mod StepLemmas
 pub mod TableLemmas
 pub mod PageLemmas
+pub mod FrontLemmas
 pub mod WrittenLemmas
 pub mod PagesLemmas
 pub mod PacketLemmas

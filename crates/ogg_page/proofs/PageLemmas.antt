@@ -4,7 +4,8 @@ use Rattle.std.proofs.Math.ListN.{get_or-append}
 use Rattle.std.proofs.lemmas.List.{take-append-le, drop-append-le, take_all}
 use Rattle.std.proofs.lemmas.List.Elements.{All-take, All-drop}
 use Rattle.std.proofs.lemmas.List.Sums.{sum_by-le}
-use Rattle.std.proofs.lemmas.Bool.{le-ltb, ltb-false}
+use Rattle.std.proofs.lemmas.Bool.{le-ltb, ltb-false, eqb-true}
+use Rattle.std.specs.Cmp.Lexicographic.{same_text}
 use Rattle.std.specs.Str.{bytes_eq}
 use Rattle.byteorder.specs.Endian.{little_number}
 use Rattle.ogg_page.specs.declared.fault.PageFault.{PageFault}
@@ -32,13 +33,24 @@ pub by_parts : (bytes : List ℕ) → page_at_front bytes ≡ first_of_four (sta
 unfolding page_at_front first_of_four
 by_parts bytes = refl
 
-from_ok : (a b c d : Bool) (page found : Page) → first_of_four a b c d page ≡ Ok found → (c ≡ false) × (page ≡ found)
+-- a page is read where nothing that is asked is wrong
+record NoFault (a b c d : Bool) (page found : Page) : Type 0 where
+  start : a ≡ false
+  version : b ≡ false
+  whole : c ≡ false
+  right : d ≡ true
+  fields : page ≡ found
+
+from_ok : (a b c d : Bool) (page found : Page) → first_of_four a b c d page ≡ Ok found → NoFault a b c d page found
 unfolding first_of_four
 from_ok true b c d page found h = cc
 from_ok false true c d page found h = cc
 from_ok false false true d page found h = cc
-from_ok false false false true page found h = (refl, cc)
+from_ok false false false true page found h = record { start = refl; version = refl; whole = refl; right = refl; fields = cc }
 from_ok false false false false page found h = cc
+
+no_fault : (bytes : List ℕ) (page : Page) → page_at_front bytes ≡ Ok page → NoFault (starts_otherwise bytes) (nat_lt 0 (slice_index bytes 4)) (is_short bytes) (has_its_checksum bytes) (fields_of bytes) page
+no_fault bytes page h = from_ok (starts_otherwise bytes) (nat_lt 0 (slice_index bytes 4)) (is_short bytes) (has_its_checksum bytes) (fields_of bytes) page (sym (by_parts bytes) ∙ h)
 
 long_enough : (bytes : List ℕ) → is_short bytes ≡ false → (27 ≤ length bytes) × (size_of bytes ≤ length bytes)
 long_enough bytes h = go (nat_lt (length bytes) 27) (nat_lt (length bytes) (size_of bytes)) refl refl h
@@ -51,9 +63,22 @@ long_enough bytes h = go (nat_lt (length bytes) 27) (nat_lt (length bytes) (size
 -- a page that is read has the fields that stand in the bytes, and is there whole
 pub page_is : (bytes : List ℕ) (page : Page) → page_at_front bytes ≡ Ok page → (27 ≤ length bytes) × (size_of bytes ≤ length bytes) × (fields_of bytes ≡ page)
 page_is bytes page h =
-    let parts = from_ok (starts_otherwise bytes) (nat_lt 0 (slice_index bytes 4)) (is_short bytes) (has_its_checksum bytes) (fields_of bytes) page (sym (by_parts bytes) ∙ h) in
-    let long = long_enough bytes parts.0 in
-    (long.0, long.1, parts.1)
+    let parts = no_fault bytes page h in
+    let long = long_enough bytes parts.whole in
+    (long.0, long.1, parts.fields)
+
+not_false : (b : Bool) → not b ≡ false → true ≡ b
+not_false true h = refl
+not_false false h = cc
+
+-- it begins with `OggS`, its version is 0, and the checksum stands in its field
+pub page_begins : (bytes : List ℕ) (page : Page) → page_at_front bytes ≡ Ok page → (take 4 bytes ≡ capture) × (slice_index bytes 4 ≡ 0) × (number_at 4 22 bytes ≡ checksum_of (take (size_of bytes) bytes))
+page_begins bytes page h =
+    let parts = no_fault bytes page h in
+    let long = long_enough bytes parts.whole in
+    let same : take 4 bytes ≡ take (length bytes) capture = same_text (take 4 bytes) (take (length bytes) capture) (not_false (bytes_eq (take 4 bytes) (take (length bytes) capture)) parts.start) in
+    let version : slice_index bytes 4 ≤ 0 = ltb-false 0 (slice_index bytes 4) parts.version in
+    (same ∙ take_all (length bytes) capture (omega (arith, long.0)), omega arith, eqb-true (number_at 4 22 bytes) (checksum_of (take (size_of bytes) bytes)) parts.right)
 
 -- such a page takes as many bytes as it says
 pub bytes_of_page-is : (bytes : List ℕ) (page : Page) → page_at_front bytes ≡ Ok page → (bytes_of_page page ≡ size_of bytes) × (bytes_of_page page ≤ length bytes)

@@ -33,6 +33,11 @@ abbrev pub GoesOn : ℕ → List ℕ → ℕ → Type 0
 GoesOn before bytes after = (rest : List Bool) → 32 ≤ length rest
     → divide (8 * length bytes) (sum_of (digits 32 before) (bits_of bytes ++ rest)) ≡ sum_of (digits 32 after) rest
 
+-- n bytes that are 0
+unfoldable pub zero_bytes : ℕ → List ℕ
+zero_bytes zero = []
+zero_bytes (suc n) = 0 ∷ zero_bytes n
+
 -- a page with its checksum field taken as 0
 abbrev pub blanked : List ℕ → List ℕ
 blanked page = take 22 page ++ (0 ∷ 0 ∷ 0 ∷ 0 ∷ []) ++ drop 26 page

@@ -1,13 +1,14 @@
 // Reading a page (RFC 3533, 6).
-ghost use Rattle.std.specs.Prelude.{◌≡◌, ◌<◌, ◌≤◌, ◌+◌, ◌*◌, ℕ, List, length, drop, sum, IfOk};
-ghost use Rattle.ogg_page.specs.Page.{GivesPage, page_at_front, HasShape, bytes_of_page, view, Opens};
+ghost use Rattle.std.specs.Prelude.{◌≡◌, ◌<◌, ◌≤◌, ◌+◌, ◌*◌, ℕ, List, length, take, drop, sum, IfOk};
+ghost use Rattle.ogg_page.specs.Page.{GivesPage, page_at_front, HasShape, bytes_of_page, view, Opens, capture};
+ghost use Rattle.ogg_page.specs.Written.{written_page};
 
 use crate::page::{CAPTURE, HEADER};
 use crate::{PageFault, PageRef, checksum};
 use byteorder::{ByteOrder, LittleEndian};
 
 // The sum of lacing bytes, which is the length of the body.
-fn total(lacing: &[u8]) -> usize
+pub(crate) fn total(lacing: &[u8]) -> usize
     requires { length lacing.now ≤ 255 }
     ensures sum { result ≡ sum lacing.now }
     ensures bound { result ≤ 255 * 255 }
@@ -64,6 +65,9 @@ pub fn read_page(bytes: &[u8], at: usize) -> Result<PageRef<'_>, PageFault>
     ensures page { GivesPage result (page_at_front (drop at bytes.now)) }
     ensures shape { IfOk result (λ page. HasShape page.lacing.now page.body.now) }
     ensures fits { IfOk result (λ page. at + bytes_of_page (view page) ≤ length bytes.now) }
+    ensures begins { IfOk result (λ page. take 4 (drop at bytes.now) ≡ capture) }
+    // What stands there is what is written for these fields, the checksum with them.
+    ensures written { IfOk result (λ page. take (bytes_of_page (view page)) (drop at bytes.now) ≡ written_page (view page)) }
 {
     front_page(&bytes[at..])
 }
@@ -74,6 +78,8 @@ pub fn read_window(window: &[u8]) -> Result<PageRef<'_>, PageFault>
     ensures page { (bytes : List ℕ) → Opens window.now bytes → GivesPage result (page_at_front bytes) }
     ensures shape { IfOk result (λ page. HasShape page.lacing.now page.body.now) }
     ensures fits { IfOk result (λ page. bytes_of_page (view page) ≤ length window.now) }
+    ensures begins { IfOk result (λ page. take 4 window.now ≡ capture) }
+    ensures written { IfOk result (λ page. take (bytes_of_page (view page)) window.now ≡ written_page (view page)) }
 {
     front_page(window)
 }

@@ -1,8 +1,15 @@
-ghost use Rattle.std.specs.Prelude.{◌≡◌};
+ghost use Rattle.std.specs.Prelude.{IfOk};
+ghost use Rattle.ogg_page.specs.Page.{HasShape};
 
+use crate::read::total;
 use crate::*;
+use std::alloc::Global;
+use std::process::Abort;
 
-// An identification header, a comment header with a setup packet of one byte, and a frame packet of one byte.
+// A page that is to be written: flags, granule position, serial and sequence number, lacing values, body.
+type Made<'a> = (u8, u64, u32, u32, &'a [u8], &'a [u8]);
+
+// An identification header, and a comment header with a setup packet of one byte.
 const IDENT: [u8; 42] = [
     0x80, b't', b'h', b'e', b'o', b'r', b'a', 3, 2, 1, 0, 1, 0, 1, 0, 0, 16, 0, 0, 16, 0, 0, 0, 0,
     0, 25, 0, 0, 0, 1, 0, 0, 1, 0, 0, 1, 0, 0, 0, 0, 0x78, 0xc0,
@@ -12,8 +19,6 @@ const COMMENT_AND_SETUP: [u8; 22] = [
     0x81, b't', b'h', b'e', b'o', b'r', b'a', 6, 0, 0, 0, b'o', b'g', b'g', b'c', b'u', b't', 0, 0,
     0, 0, 0x82,
 ];
-
-const FRAME: [u8; 1] = [0];
 
 // The page with the frame packet, its checksum as libogg 1.3.5 sets it.
 const FRAME_PAGE: [u8; 29] = [
@@ -27,79 +32,104 @@ const EMPTY_PAGE: [u8; 27] = [
     0xd2, 0xc6, 0xa8, 0,
 ];
 
-fn head(flags: u8, granule: u64, number: u32) -> PageHead
-    ensures { result.flags ≡ flags }
-{
-    PageHead {
+// Its bytes, which are read back by both calls.
+fn written(rt: &impl Abort, alloc: Global, made: &Made) -> Vec<u8> {
+    let (flags, granule, serial, number, lacing, body) = *made;
+    let head = PageHead {
         flags,
         granule,
-        serial: 1,
+        serial,
         number,
-    }
-}
-
-#[test]
-fn the_pages_of_a_file_of_one_frame_have_70_51_and_29_bytes(rt: HostRuntime) {
-    let mut out = Vec::new(rt.alloc());
-    assert_eq!(rt; write_page(&mut out, &head(2, 0, 0), &[42], &IDENT), Ok(()));
-    assert_eq!(rt; out.len(), 70);
-    assert!(rt; out[22..26] == [0xcf, 0x61, 0xb0, 0xf0][..]);
-    assert_eq!(rt;
-        write_page(&mut out, &head(0, 0, 1), &[21, 1], &COMMENT_AND_SETUP),
-        Ok(())
-    );
-    assert_eq!(rt; out.len(), 121);
-    assert!(rt; out[92..96] == [0xa8, 0x9b, 0x12, 0xde][..]);
-    assert_eq!(rt; write_page(&mut out, &head(4, 64, 2), &[1], &FRAME), Ok(()));
-    assert!(rt; out[121..] == FRAME_PAGE[..]);
-    for (at, size, number) in [(0, 70, 0), (70, 51, 1), (121, 29, 2)] {
-        match read_page(&out, at) {
-            Ok(page) => {
-                assert_eq!(rt; page.size(), size);
-                assert_eq!(rt; page.number, number);
-            }
-            Err(fault) => assert!(rt; false, "{}", fault.name()),
-        }
-    }
-}
-
-#[test]
-fn each_field_is_written_with_its_lowest_byte_first(rt: HostRuntime) {
-    let head = PageHead {
-        flags: 7,
-        granule: 0x0807_0605_0403_0201,
-        serial: 0x0c0b_0a09,
-        number: 0x100f_0e0d,
     };
-    let mut out = Vec::new(rt.alloc());
-    assert_eq!(rt; write_page(&mut out, &head, &[], &[]), Ok(()));
-    assert!(rt; out.as_slice() == EMPTY_PAGE.as_slice());
-    assert_eq!(rt; checksum(&EMPTY_PAGE), 0xa8c6_d237);
+    assert!(rt; flags < 8 && lacing.len() <= 255);
+    assert!(rt; total(lacing) == body.len());
+    let mut out = Vec::new(alloc);
+    assert!(rt; write_page(&mut out, &head, lacing, body).is_ok());
+    assert!(rt; !out.is_empty());
+    check_page(rt, read_page(&out, 0), made);
+    check_page(rt, read_window(&out), made);
+    out
 }
 
-#[test]
-fn a_packet_of_255_bytes_ends_with_a_zero_lacing(rt: HostRuntime) {
-    let mut out = Vec::new(rt.alloc());
-    let body = [0; 255];
-    assert_eq!(rt;
-        write_page(&mut out, &head(0, 0, 3), &[255, 0], &body),
-        Ok(())
-    );
-    assert_eq!(rt; out.len(), 284);
-    assert!(rt; out[22..26] == [0x0a, 0x63, 0xe9, 0x56][..]);
-    match read_window(&out) {
+fn check_page(rt: &impl Abort, read: Result<PageRef, PageFault>, made: &Made)
+    requires { IfOk read (λ page. HasShape page.lacing.now page.body.now) }
+{
+    let (flags, granule, serial, number, lacing, body) = *made;
+    match read {
         Ok(page) => {
-            assert!(rt; page.lacing == [255, 0].as_slice());
-            assert_eq!(rt; page.body.len(), 255);
+            assert!(rt; page.flags == flags && page.granule == granule);
+            assert!(rt; page.serial == serial && page.number == number);
+            assert!(rt; page.lacing == lacing && page.body == body);
+            assert!(rt; page.size() == 27 + lacing.len() + body.len());
         }
         Err(fault) => assert!(rt; false, "{}", fault.name()),
     }
 }
 
+// Whether these bytes are the page's checksum, and stand in its field.
+fn has_checksum(page: &[u8], sum: [u8; 4]) -> bool {
+    page.len() >= 27 && page[22..26] == sum[..] && checksum(page) == u32::from_le_bytes(sum)
+}
+
+// The checksums are those that libogg 1.3.5 sets.
+#[test]
+fn pages_are_written_with_their_checksum_and_read_back(rt: HostRuntime) {
+    const ROWS: [(&str, Made, usize, [u8; 4]); 5] = [
+        (
+            "an identification header",
+            (2, 0, 1, 0, &[42], &IDENT),
+            70,
+            [0xcf, 0x61, 0xb0, 0xf0],
+        ),
+        (
+            "two packets",
+            (0, 0, 1, 1, &[21, 1], &COMMENT_AND_SETUP),
+            51,
+            [0xa8, 0x9b, 0x12, 0xde],
+        ),
+        (
+            "a frame",
+            (4, 64, 1, 2, &[1], &[0]),
+            29,
+            [0x4c, 0x68, 0x5e, 0x9d],
+        ),
+        (
+            "another number in each byte",
+            (7, 0x0807_0605_0403_0201, 0x0c0b_0a09, 0x100f_0e0d, &[], &[]),
+            27,
+            [0x37, 0xd2, 0xc6, 0xa8],
+        ),
+        (
+            "a packet of 255 bytes ends with a lacing value of 0",
+            (0, 0, 1, 3, &[255, 0], &[0; 255]),
+            284,
+            [0x0a, 0x63, 0xe9, 0x56],
+        ),
+    ];
+    for (name, made, size, sum) in ROWS {
+        let out = written(&rt, rt.alloc(), &made);
+        assert!(rt; out.len() == size, "{name}");
+        assert!(rt; has_checksum(&out, sum), "{name}");
+    }
+    assert!(rt; written(&rt, rt.alloc(), &ROWS[2].1).as_slice() == FRAME_PAGE.as_slice());
+    assert!(rt; written(&rt, rt.alloc(), &ROWS[3].1).as_slice() == EMPTY_PAGE.as_slice());
+}
+
+// Its checksum was worked out bit by bit.
+#[test]
+fn the_greatest_page_has_65307_bytes(rt: HostRuntime) {
+    let mut body = Vec::new(rt.alloc());
+    for _ in 0..255 {
+        assert!(rt; body.extend_from_slice(&[7; 255]).is_ok());
+    }
+    let out = written(&rt, rt.alloc(), &(1, u64::MAX, 1, 4, &[255; 255], &body));
+    assert!(rt; out.len() == 65307);
+    assert!(rt; has_checksum(&out, [0xe0, 0xdf, 0x8e, 0x99]));
+}
+
 #[test]
 fn each_fault_has_a_smallest_input_and_its_place_in_the_order(rt: HostRuntime) {
-    const BAD_SUM: [u8; 27] = *b"OggS\0\0\0\0\0\0\0\0\0\0\0\0\0\0\0\0\0\0\0\0\0\0\0";
-    const ROWS: [(&str, &[u8], PageFault); 8] = [
+    const ROWS: [(&str, &[u8], PageFault); 7] = [
         ("another first byte", b"X", PageFault::NotAPage),
         (
             "another fourth byte and version",
@@ -113,31 +143,32 @@ fn each_fault_has_a_smallest_input_and_its_place_in_the_order(rt: HostRuntime) {
             PageFault::PageVersion,
         ),
         ("one byte", b"O", PageFault::Truncated),
-        ("no byte", b"", PageFault::Truncated),
         (
             "a lacing byte is missing",
             b"OggS\0\0\0\0\0\0\0\0\0\0\0\0\0\0\0\0\0\0\0\0\0\0\x01",
             PageFault::Truncated,
         ),
-        ("a checksum of 0", &BAD_SUM, PageFault::Checksum),
+        (
+            "a checksum of 0",
+            b"OggS\0\0\0\0\0\0\0\0\0\0\0\0\0\0\0\0\0\0\0\0\0\0\0",
+            PageFault::Checksum,
+        ),
     ];
     for (name, bytes, fault) in ROWS {
-        assert!(rt;
-            matches!(read_window(bytes), Err(found) if found == fault),
-            "{name}"
-        );
+        assert!(rt; !bytes.is_empty());
+        assert!(rt; read_page(bytes, 0).err() == Some(fault), "{name}");
+        assert!(rt; read_window(bytes).err() == Some(fault), "{name}");
     }
+    assert!(rt; read_window(&[]).err() == Some(PageFault::Truncated));
 }
 
 #[test]
 fn a_page_cut_anywhere_is_truncated_and_a_changed_byte_is_found(rt: HostRuntime) {
-    for n in 1..29 {
+    for n in 0..29 {
         assert!(rt;
-            matches!(read_page(&FRAME_PAGE[..n], 0), Err(PageFault::Truncated)),
+            read_window(&FRAME_PAGE[..n]).err() == Some(PageFault::Truncated),
             "{n} bytes"
         );
-    }
-    for n in 0..29 {
         let mut changed = FRAME_PAGE;
         changed[n] ^= 1;
         assert!(rt; read_page(&changed, 0).is_err(), "byte {n}");
@@ -153,7 +184,6 @@ fn faults_have_the_numbers_30_to_33(rt: HostRuntime) {
         (PageFault::Truncated, 33, "Truncated"),
     ];
     for (fault, number, name) in ROWS {
-        assert_eq!(rt; fault.number(), number);
-        assert!(rt; fault.name() == name);
+        assert!(rt; fault.number() == number && fault.name() == name);
     }
 }

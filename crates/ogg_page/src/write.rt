@@ -1,6 +1,6 @@
 // Writing a page (RFC 3533, 6).
 ghost use Rattle.std.specs.Prelude.{◌≡◌, ◌<◌, ◌≤◌, ◌+◌, ◌++◌, ◌∷◌, [], ℕ, List, OnOk, OnErr, Ok, length, vec_len, vec_capacity};
-ghost use Rattle.ogg_page.specs.Page.{HasShape, page_at_front, ArePages, Page};
+ghost use Rattle.ogg_page.specs.Page.{HasShape, page_at_front, ArePages, Page, bytes_of_page};
 ghost use Rattle.ogg_page.specs.Written.{head_of, page_from, written_page};
 
 use crate::PageHead;
@@ -43,7 +43,8 @@ fn append(out: &mut Vec<u8>, bytes: &[u8])
     let _ = out.extend_from_slice(bytes);
 }
 
-/// Appends the page with this head, these lacing bytes and this body. Where no memory is found, `out` stays as it is.
+/// Appends the page with this head, these lacing bytes and this body. After `NoMem`, which comes only where there is no
+/// room for it, `out` is as it was.
 pub fn write_page(
     out: &mut Vec<u8>,
     head: &PageHead,
@@ -54,6 +55,7 @@ pub fn write_page(
     requires shape { HasShape lacing.now body.now }
     ensures written { OnOk result (out.new.items ≡ out.old.items ++ written_page (page_from head.now lacing.now body.now)) }
     ensures memory { OnErr result (out.new.items ≡ out.old.items) }
+    ensures full { OnErr result (vec_capacity out.old < vec_len out.old + bytes_of_page (page_from head.now lacing.now body.now)) }
     // Whatever bytes follow the page, it is read back.
     ensures reads_back { let page = page_from head.now lacing.now body.now in
         (rest : List ℕ) → page_at_front (written_page page ++ rest) ≡ Ok page }

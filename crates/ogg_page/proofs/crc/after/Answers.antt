@@ -1,17 +1,7 @@
-use Rattle.std.proofs.Common.{◌+◌, arith}
-use Rattle.ogg_page.proofs.StepLemmas.{GoesOn-nil, GoesOn-more, GoesOn-two_more, GoesOn-all}
+use Rattle.std.proofs.Common.{◌/◌, length}
+use Rattle.ogg_page.proofs.StepLemmas.{GoesOn-chunks}
 use Rattle.ogg_page.proofs.crc.after.Goals as goal
 
-pub loop-i-init : goal.loop-i-init
-loop-i-init c = (omega arith, GoesOn-nil c.args.crc)
-
-pub loop-i-preserved : goal.loop-i-preserved
-loop-i-preserved c = (
-  omega (arith, c.loop-i-test.true),
-  GoesOn-two_more c.args.crc c.loop-i.crc c.after_pair-crc.result c.loop-i.i c.args.bytes.now (omega (arith, c.loop-i-test.true)) c.loop-i.invariant.1 c.after_pair-crc.ensures,
-)
-
-pub returns-then-i-bytes : goal.returns-then-i-bytes
-returns-then-i-bytes c =
-    GoesOn-all c.args.crc c.after_byte-crc.result (c.loop-i.i + 1) c.args.bytes.now (omega (arith, c.loop-i-test.false, c.loop-i.invariant.0))
-    (GoesOn-more c.args.crc c.loop-i.crc c.after_byte-crc.result c.loop-i.i c.args.bytes.now c.if-i-bytes.true c.loop-i.invariant.1 c.after_byte-crc.ensures)
+pub returns : goal.returns
+returns c = GoesOn-chunks c.args.crc c.after_eights.result c.after_bytes.result (length c.args.bytes.now / 8) c.args.bytes.now
+    (rw c.as_chunks.ensures.front at c.after_eights.ensures) (rw c.as_chunks.ensures.back at c.after_bytes.ensures)
