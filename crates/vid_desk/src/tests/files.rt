@@ -3,10 +3,13 @@ use crate::*;
 use std::alloc::{AllocError, Global};
 use std::os::unix::fs::symlink;
 use std::test::Fail;
-use std::{fs, io};
+use std::{env, fs, io};
 
-// Two files, a folder, three more names of the first file, and a link that leads nowhere.
-fn prepare(rt: &HostRuntime) -> io::Result<()> {
+// Goes to a new folder, since tests may share one. In it are two inputs and what an output is to replace, a folder, two
+// more names of the first input, and a link that leads nowhere.
+fn prepare(rt: &HostRuntime, place: &str) -> io::Result<()> {
+    fs::create_dir(rt, place)?;
+    env::set_current_dir(rt, place)?;
     fs::write(rt, "first", b"abcdef")?;
     fs::write(rt, "second", b"0123456789")?;
     fs::write(rt, "made", b"what was there before, and is longer")?;
@@ -46,7 +49,7 @@ const INPUTS: [(&str, &[u8]); 10] = [
 
 #[test]
 fn an_input_is_the_regular_file_of_its_name(rt: HostRuntime) -> Result<(), Fail> {
-    prepare(&rt)?;
+    prepare(&rt, "inputs")?;
     let mut desk = FileDesk::new(rt, rt.alloc());
     for (name, bytes) in INPUTS {
         let found = shown(&mut desk, rt.alloc(), name)?;
@@ -77,7 +80,7 @@ const REFUSED: [&str; 7] = [
 
 #[test]
 fn an_output_replaces_what_is_no_input(rt: HostRuntime) -> Result<(), Fail> {
-    prepare(&rt)?;
+    prepare(&rt, "outputs")?;
     let mut desk = FileDesk::new(rt, rt.alloc());
     desk.find("first")?;
     desk.find("second")?;
