@@ -1,6 +1,6 @@
 // Tokens are read place by place and block by block (Theora I, 7.7.3).
 ghost use Rattle.std.specs.Prelude.{◌≡◌, ℕ, ◌+◌, ◌<◌, ◌≤◌, [], IfOk, length};
-ghost use Rattle.vid_base.specs.Reading.{Gives};
+ghost use Rattle.vid_base.specs.Reading.{Gives, SameEnd};
 ghost use Rattle.vid_geom.specs.CodedOrder.{order_of};
 ghost use Rattle.thr_token.specs.Coefficients.{at_place, places, token_in, turn, unended_at};
 ghost use Rattle.thr_token.specs.Standing.{lumas_of, progress, standing};
@@ -27,6 +27,7 @@ impl PlaceTrees<'_> {
         ensures value { (count : ℕ) → Gives (λ x. (progress luma x.0 block.new self.now.place, x.1)) result r.new.left
             (turn (token_in self.now.all.forest.now self.now.all.numbers) self.now.place others (progress luma self.now.place block.old count) run r.old.left) }
         ensures small { IfOk result (λ x. x.0 ≤ 64) }
+        ensures end { SameEnd r.old r.new }
     {
         if run > 0 {
             return Ok((ENDED, run - 1));

@@ -1,6 +1,6 @@
 // The coefficients of a frame are read (Theora I, 7.7.3).
 ghost use Rattle.std.specs.Prelude.{◌≡◌, [], length, map, pos, replicate, Err, OnErr, OnOk};
-ghost use Rattle.vid_base.specs.Reading.{Gives, GivesOrNoMem};
+ghost use Rattle.vid_base.specs.Reading.{Gives, GivesOrNoMem, SameEnd};
 ghost use Rattle.vid_base.specs.declared.fault.Refusal.TheVariants.{NoMem};
 ghost use Rattle.vid_geom.specs.CodedOrder.{order_of};
 ghost use Rattle.thr_token.specs.Coefficients.{coefficients, first_place};
@@ -33,6 +33,7 @@ pub fn read_tokens_with(
     requires counts { length counts.old ≡ length (order_of geom.now) }
     requires list { length list.old ≡ length (order_of geom.now) }
     ensures value { Gives (λ _. (values.new, counts.new)) result r.new.left (coefficients forest.now geom.now flags.now r.old.left) }
+    ensures end { SameEnd r.old r.new }
 {
     let open = begin_listed(flags, counts, list);
     let first = Trees::read(r, forest, geom)?;
@@ -77,6 +78,7 @@ pub fn read_tokens_in(
     requires counts { length counts.old ≡ length (order_of geom.now) }
     requires work { length work.old ≡ length (order_of geom.now) }
     ensures value { Gives (λ _. (values.new, counts.new)) result r.new.left (coefficients forest.now geom.now flags.now r.old.left) }
+    ensures end { SameEnd r.old r.new }
 {
     begin(flags, values, counts, work);
     let first = Trees::read(r, forest, geom)?;
@@ -98,6 +100,7 @@ pub fn read_tokens(
     requires { length flags.now ≡ length (order_of geom.now) }
     ensures value { GivesOrNoMem (λ _. (into.new.values.items, into.new.counts.items)) result r.new.left (coefficients forest.now geom.now flags.now r.old.left) }
     ensures sized { OnOk result ((length into.new.values.items ≡ length (order_of geom.now)) × (length into.new.counts.items ≡ length (order_of geom.now))) }
+    ensures end { SameEnd r.old r.new }
     ensures emptied { OnErr result ((into.new.values.items ≡ []) × (into.new.counts.items ≡ [])) }
     ensures memory { result ≡ Err NoMem → r.new ≡ r.old }
 {

@@ -1,6 +1,6 @@
 // All blocks are asked at each place: the plain form, which wants one byte a block (Theora I, 7.7.3).
 ghost use Rattle.std.specs.Prelude.{◌≡◌, [], length};
-ghost use Rattle.vid_base.specs.Reading.{Gives};
+ghost use Rattle.vid_base.specs.Reading.{Gives, SameEnd};
 ghost use Rattle.vid_geom.specs.CodedOrder.{order_of};
 ghost use Rattle.thr_token.specs.Coefficients.{at_place, places, token_in, unended_at};
 ghost use Rattle.thr_token.specs.Standing.{lumas_of, standing};
@@ -29,8 +29,9 @@ impl PlaceTrees<'_> {
         requires values { length values.old ≡ length (order_of self.now.all.geom.now) }
         requires counts { length counts.old ≡ length (order_of self.now.all.geom.now) }
         requires work { length work.old ≡ length (order_of self.now.all.geom.now) }
-        ensures { Gives (λ run. (standing (lumas_of self.now.all.geom.now) work.new values.new counts.new, run)) result r.new.left
+        ensures value { Gives (λ run. (standing (lumas_of self.now.all.geom.now) work.new values.new counts.new, run)) result r.new.left
             (at_place (token_in self.now.all.forest.now self.now.all.numbers) self.now.place [] (standing (lumas_of self.now.all.geom.now) work.old values.old counts.old) active r.old.left) }
+        ensures end { SameEnd r.old r.new }
     {
         let mut run = active;
         let mut open = unended(work);
@@ -63,8 +64,9 @@ impl Trees<'_> {
         requires values { length values.old ≡ length (order_of self.now.geom.now) }
         requires counts { length counts.old ≡ length (order_of self.now.geom.now) }
         requires work { length work.old ≡ length (order_of self.now.geom.now) }
-        ensures { Gives (λ run. (standing (lumas_of self.now.geom.now) work.new values.new counts.new, run)) result r.new.left
+        ensures value { Gives (λ run. (standing (lumas_of self.now.geom.now) work.new values.new counts.new, run)) result r.new.left
             (places (token_in self.now.forest.now self.now.numbers) 63 1 (standing (lumas_of self.now.geom.now) work.old values.old counts.old) active r.old.left) }
+        ensures end { SameEnd r.old r.new }
     {
         let mut run = active;
         'places: for place in 1..ENDED {

@@ -1,6 +1,6 @@
 // By which trees the tokens of a frame are read (Theora I, 7.7.3).
 ghost use Rattle.std.specs.Prelude.{◌≡◌, ◌<◌, false, get_or, length, true, IfOk};
-ghost use Rattle.vid_base.specs.Reading.{Gives};
+ghost use Rattle.vid_base.specs.Reading.{Gives, SameEnd};
 ghost use Rattle.vid_geom.specs.CodedOrder.{order_of, plane_blocks};
 ghost use Rattle.thr_token.specs.Coefficients.{group_of, numbers_in, token_in, tree_of};
 ghost use Rattle.thr_token.specs.Standing.{lumas_of};
@@ -61,6 +61,7 @@ impl TableNumbers {
     #[tactic(auto, unfolding(crate::specs::Coefficients::numbers_in))]
     pub(crate) fn read(r: &mut BitReader) -> Result<TableNumbers, PacketFault>
         ensures value { Gives (λ numbers. numbers) result r.new.left (numbers_in r.old.left) }
+        ensures end { SameEnd r.old r.new }
         ensures small { IfOk result (λ numbers. (numbers.luma < 16) × (numbers.chroma < 16)) }
     {
         let luma = r.take(4)? as u8;
@@ -87,6 +88,7 @@ impl<'a> Trees<'a> {
         geom: &'a Geom,
     ) -> Result<Trees<'a>, PacketFault>
         ensures value { Gives (λ trees. trees.numbers) result r.new.left (numbers_in r.old.left) }
+        ensures end { SameEnd r.old r.new }
         ensures trees { IfOk result (λ trees. (trees.forest.now ≡ forest.now) × (trees.geom.now ≡ geom.now)) }
     {
         let numbers = TableNumbers::read(r)?;
@@ -125,7 +127,8 @@ impl PlaceTrees<'_> {
     /// The meaning of the next token, that of a block at the place.
     #[tactic(auto, unfolding(crate::specs::Coefficients::token_in))]
     pub(crate) fn read(&self, r: &mut BitReader, luma: bool) -> Result<Meaning, PacketFault>
-        ensures { Gives (λ meaning. meaning) result r.new.left (token_in self.now.all.forest.now self.now.all.numbers self.now.place luma r.old.left) }
+        ensures value { Gives (λ meaning. meaning) result r.new.left (token_in self.now.all.forest.now self.now.all.numbers self.now.place luma r.old.left) }
+        ensures end { SameEnd r.old r.new }
     {
         let tree = if luma { self.luma } else { self.chroma };
         let token = self.all.forest.token(tree, r)?;

@@ -1,6 +1,6 @@
 // The blocks that have not ended are kept in a list, so that no place asks those that have (own).
 ghost use Rattle.std.specs.Prelude.{◌≡◌, ◌+◌, ◌*◌, ◌^◌, ◌≤◌, ◌<◌, [], IfOk, length, map, replicate, take};
-ghost use Rattle.vid_base.specs.Reading.{Gives};
+ghost use Rattle.vid_base.specs.Reading.{Gives, SameEnd};
 ghost use Rattle.vid_geom.specs.CodedOrder.{order_of};
 ghost use Rattle.thr_token.specs.Coefficients.{at_place, first_place, places, token_in, visit};
 ghost use Rattle.thr_token.specs.Listing.{IsListing, blocks_by, listed};
@@ -56,6 +56,7 @@ impl PlaceTrees<'_> {
         ensures value { Gives (λ x. (progress luma x.0 block.new count.new, x.1)) result r.new.left
             (visit (token_in self.now.all.forest.now self.now.all.numbers) self.now.place others (progress luma stands block.old count.old) run r.old.left) }
         ensures small { IfOk result (λ x. x.0 ≤ 64) }
+        ensures end { SameEnd r.old r.new }
     {
         if stands != self.place {
             return Ok((stands, run));
@@ -81,6 +82,7 @@ impl PlaceTrees<'_> {
         ensures value { Gives (λ x. (blocks_by (lumas_of self.now.all.geom.now) (take x.1 list.new) values.new counts.new, x.0)) result r.new.left
             (at_place (token_in self.now.all.forest.now self.now.all.numbers) self.now.place [] (blocks_by (lumas_of self.now.all.geom.now) list.old values.old counts.old) active r.old.left) }
         ensures list { IfOk result (λ x. (x.1 ≤ length list.old) × IsListing (length (lumas_of self.now.all.geom.now)) (take x.1 list.new)) }
+        ensures end { SameEnd r.old r.new }
     {
         let mut run = active;
         let mut kept = 0;
@@ -125,6 +127,7 @@ impl Trees<'_> {
         requires list { IsListing (length (lumas_of self.now.geom.now)) list.old }
         ensures value { Gives (λ x. (blocks_by (lumas_of self.now.geom.now) (take x.1 list.new) values.new counts.new, x.0)) result r.new.left
             (places (token_in self.now.forest.now self.now.numbers) 63 1 (blocks_by (lumas_of self.now.geom.now) list.old values.old counts.old) active r.old.left) }
+        ensures end { SameEnd r.old r.new }
     {
         let mut run = active;
         let mut open = list.len();

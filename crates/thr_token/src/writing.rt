@@ -1,9 +1,10 @@
 // The tokens of a frame are written (Theora I, 7.7.3).
 ghost use Rattle.std.specs.Prelude.{◌≡◌, ◌<◌, ◌++◌, ℕ, ℤ, Bool, List, All, IsSome, OnErr, OnOk};
 ghost use Rattle.vid_base.specs.declared.shape.Shape.{Shape};
+ghost use Rattle.vid_base.specs.Writing.{Grows, ReadsBack};
 ghost use Rattle.thr_token.specs.Coefficients.{coefficients};
 ghost use Rattle.thr_token.specs.Tokenised.{IsToken, Tells};
-ghost use Rattle.thr_token.specs.WrittenTokens.{Grows, IsHeld, ReadsBack, code_for, codes_in, in_part, numbers_code, numbers_of, part_code, token_code, tokens_code};
+ghost use Rattle.thr_token.specs.WrittenTokens.{IsHeld, code_for, codes_in, in_part, numbers_code, numbers_of, part_code, token_code, tokens_code};
 
 use crate::meaning::further_bits;
 use crate::token::{Tables, Token};

@@ -24,6 +24,7 @@ list-init c =
     let lumas = lumas_of trees.all.geom.now in
     let long = length-map (order_of trees.all.geom.now) is_luma in
     record {
+      end = refl;
       low = omega arith;
       values_are = omega arith;
       counts_are = omega arith;
@@ -86,6 +87,7 @@ list-preserved c =
       | else-stands-lt-ENDED w ↦ block_ends s.k s.kept s.list _ _ (word / 64) c.in_ok-stands.stands s.invariant.low w.if-stands-lt-ENDED.false w.list-is w.kept-is
     ]) in
     record {
+      end = omega (arith, c.in_ok-stands.ensures.end);
       low = kept_is.low_is;
       values_are = length-set s.values (word / 64) c.visit.new.block ∙ s.invariant.values_are;
       counts_are = length-set s.counts (word / 64) c.visit.new.count ∙ s.invariant.counts_are;
@@ -107,4 +109,5 @@ returns c =
     record {
       value = sym same ∙ from_end next trees.place lumas words s.values s.counts s.run s.r.left s.invariant.values_are s.invariant.counts_are;
       list = (omega arith, subst (IsListing (length lumas)) (append-nil words) listing);
+      end = s.invariant.end;
     }

@@ -1,4 +1,5 @@
 use Rattle.std.proofs.Common.{◌≡◌, ◌≤◌, ◌++◌, [], length, take, drop}
+use Rattle.vid_base.specs.Reading.{SameEnd}
 use Rattle.thr_token.specs.Coefficients.{at_place, token_in}
 use Rattle.thr_token.specs.Standing.{lumas_of}
 use Rattle.thr_token.specs.Listing.{IsListing, blocks_by}
@@ -9,6 +10,7 @@ use Rattle.thr_token.proofs.trees.PlaceTrees.at_place.Given as goal
 -- with the first of the latter
 abbrev pub invariant-list : goal.invariant-list
 invariant-list l = record {
+  end : SameEnd l.fn.r l.r;
   low : l.kept ≤ l.k;
   values_are : length l.values ≡ length (lumas_of l.self.all.geom.now);
   counts_are : length l.counts ≡ length (lumas_of l.self.all.geom.now);

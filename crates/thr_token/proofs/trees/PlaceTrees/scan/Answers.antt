@@ -45,8 +45,8 @@ overflow_sub-open c =
     let trees = c.args.self.now in
     some_are trees.place s.open s.b s.work (omega (arith, s.invariant.even.places_are, length-map (order_of trees.all.geom.now) is_luma)) trees.place_is c.if-work-i.true s.invariant.open_are
 
-pub returns-in_err-stands : goal.returns-in_err-stands
-returns-in_err-stands c =
+pub returns-in_err-stands-clause-value : goal.returns-in_err-stands-clause-value
+returns-in_err-stands-clause-value c =
     let p = err_from_is_err_and c.from_residual.result c.from_residual.ensures.1 in
     let s = c.order in
     let trees = c.args.self.now in
@@ -73,17 +73,18 @@ order-preserved c =
           let blocks = length-set s.values s.b w.turn.new.block in
           let counts = length-set s.counts s.b trees.place in
           rw (w.r-is, w.values-is, w.counts-is, w.work-is, w.run-is, w.open-is) (record {
+            end = omega (arith, w.in_ok-stands.ensures.end);
             open_are = rw w.from-open.ensures (open_after s.open s.b w.in_ok-stands.stands s.work long w.in_ok-stands.ensures.small others (some_are trees.place s.open s.b s.work long trees.place_is w.if-work-i.true s.invariant.open_are));
             even = record { places_are = places ∙ s.invariant.even.places_are; values_are = blocks ∙ s.invariant.even.values_are; counts_are = counts ∙ s.invariant.even.counts_are };
             same = more ∙ s.invariant.same;
           })
       | else-work-i w ↦
           let pass = turn_pass (token_in trees.all.forest.now trees.all.numbers) trees.place s.b lumas s.work s.values s.counts s.run s.r.left s.invariant.even within w.if-work-i.false in
-          rw (w.r-is, w.values-is, w.counts-is, w.work-is, w.run-is, w.open-is) (record { open_are = s.invariant.open_are; even = s.invariant.even; same = pass ∙ s.invariant.same })
+          rw (w.r-is, w.values-is, w.counts-is, w.work-is, w.run-is, w.open-is) (record { end = s.invariant.end; open_are = s.invariant.open_are; even = s.invariant.even; same = pass ∙ s.invariant.same })
     ]
 
-pub returns : goal.returns
-returns c =
+pub returns-clause-value : goal.returns-clause-value
+returns-clause-value c =
     let s = c.order in
     let trees = c.args.self.now in
     let lumas : List Bool = lumas_of trees.all.geom.now in
