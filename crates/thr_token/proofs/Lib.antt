@@ -9,3 +9,4 @@ pub mod TellingLemmas
 pub mod TokenisedLemmas
 pub mod ListingLemmas
 pub mod WaitingLemmas
+pub mod RowLemmas

@@ -1,5 +1,6 @@
 -- The bits of a frame's tokens (Theora I, 7.7.3).
 use Rattle.std.specs.Prelude.{ℕ, ◌==◌, not, Bool, List, [], ◌++◌, filter, flat_map, Option, unwrap_or, IsSome, if◌then◌else◌}
+use Rattle.std.specs.List.{count_by}
 use Rattle.vid_base.specs.Bits.{digits}
 use Rattle.thr_huff.specs.CodeTree.{CodeTree}
 use Rattle.thr_huff.specs.Codes.{codes_at, code_of}
@@ -15,6 +16,14 @@ use Rattle.thr_token.specs.Coefficients.{tree_of}
 abbrev pub in_part : Part → ℕ → Bool
 in_part Dc place = place == 0
 in_part Ac place = not (place == 0)
+
+-- the same table for all
+abbrev pub same_tables : ℕ → Tables
+same_tables number = record { luma_dc = number; chroma_dc = number; luma_ac = number; chroma_ac = number }
+
+-- how many tokens belong to it
+abbrev pub tokens_in : Part → List Token → ℕ
+tokens_in part tokens = count_by (λ token. in_part part token.place) tokens
 
 -- the tables of a part
 abbrev pub numbers_of : Tables → Part → TableNumbers

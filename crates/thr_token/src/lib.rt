@@ -3,6 +3,7 @@
 
 mod adding;
 mod coeffs;
+mod laws;
 mod meaning;
 mod places;
 mod reading;
@@ -16,6 +17,7 @@ mod waiting;
 mod writing;
 
 pub use coeffs::Coeffs;
+pub use laws::full_rows_hold_all_tokens;
 pub use reading::{read_tokens, read_tokens_in, read_tokens_with};
 pub use token::{Tables, Token};
 pub use tokenising::tokenise;
