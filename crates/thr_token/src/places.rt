@@ -13,34 +13,41 @@ use vid_base::{BitReader, PacketFault};
 pub(crate) const ENDED: u8 = 64;
 
 impl PlaceTrees<'_> {
-    /// A block that stands at the place is ended by the run that is active, or else takes a token; where it stands then,
-    /// and the rest of the run. `others` counts the other blocks that have not ended.
+    /// A block that stands at the place is ended by the run that is active, or else takes a token; where it stands then.
+    /// What is left of the run is in its place, since a pair of both would go through memory. `others` counts the other blocks that have not ended.
     #[tactic(auto, unfolding(crate::specs::Coefficients::turn, crate::specs::Coefficients::taken))]
     pub(crate) fn turn(
         &self,
         r: &mut BitReader,
         luma: bool,
-        run: usize,
+        run: &mut usize,
         others: usize,
         block: &mut [i16; 64],
-    ) -> Result<(u8, usize), PacketFault>
-        ensures value { (count : ℕ) → Gives (λ x. (progress luma x.0 block.new self.now.place, x.1)) result r.new.left
-            (turn (token_in self.now.all.forest.now self.now.all.numbers) self.now.place others (progress luma self.now.place block.old count) run r.old.left) }
-        ensures small { IfOk result (λ x. x.0 ≤ 64) }
+    ) -> Result<u8, PacketFault>
+        ensures value { (count : ℕ) → Gives (λ stands. (progress luma stands block.new self.now.place, run.new)) result r.new.left
+            (turn (token_in self.now.all.forest.now self.now.all.numbers) self.now.place others (progress luma self.now.place block.old count) run.old r.old.left) }
+        ensures small { IfOk result (λ stands. stands ≤ 64) }
         ensures end { SameEnd r.old r.new }
     {
-        if run > 0 {
-            return Ok((ENDED, run - 1));
+        if *run > 0 {
+            *run -= 1;
+            return Ok(ENDED);
         }
         let place = self.place;
         match self.read(r, luma)? {
-            Meaning::EndRun(0) => Ok((ENDED, others)),
-            Meaning::EndRun(blocks) => Ok((ENDED, blocks as usize - 1)),
+            Meaning::EndRun(0) => {
+                *run = others;
+                Ok(ENDED)
+            }
+            Meaning::EndRun(blocks) => {
+                *run = blocks as usize - 1;
+                Ok(ENDED)
+            }
             Meaning::ZeroRun(zeros) => {
                 if zeros > 64 - u32::from(place) {
                     return Err(PacketFault::TokenPastEnd);
                 }
-                Ok((place + zeros as u8, 0))
+                Ok(place + zeros as u8)
             }
             Meaning::Value { zeros, value } => {
                 if zeros >= 64 - u32::from(place) {
@@ -48,7 +55,7 @@ impl PlaceTrees<'_> {
                 }
                 let at = place + zeros as u8;
                 block[usize::from(at)] = value;
-                Ok((at + 1, 0))
+                Ok(at + 1)
             }
         }
     }

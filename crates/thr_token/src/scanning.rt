@@ -39,11 +39,10 @@ impl PlaceTrees<'_> {
             let i = b as usize;
             if work[i] == self.place {
                 let luma = self.all.is_luma(b);
-                let (stands, rest) = self.turn(r, luma, run, open - 1, &mut values[i])?;
+                let stands = self.turn(r, luma, &mut run, open - 1, &mut values[i])?;
                 open -= usize::from(stands == ENDED);
                 work[i] = stands;
                 counts[i] = self.place;
-                run = rest;
             }
         }
         Ok(run)

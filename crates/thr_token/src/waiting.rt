@@ -40,26 +40,26 @@ pub(crate) fn begin_listed(flags: &[bool], counts: &mut [u8], list: &mut [u32]) 
 }
 
 impl PlaceTrees<'_> {
-    // One block, which may stand at the place; where it stands then, and the rest of the run that was active.
+    // One block, which may stand at the place; where it stands then. The rest of the run that was active is in its place.
     #[tactic(auto, unfolding(crate::specs::Coefficients::visit))]
     fn visit(
         &self,
         r: &mut BitReader,
         luma: bool,
         stands: u8,
-        run: usize,
+        run: &mut usize,
         others: usize,
         block: &mut [i16; 64],
         count: &mut u8,
-    ) -> Result<(u8, usize), PacketFault>
+    ) -> Result<u8, PacketFault>
         requires { stands < 64 }
-        ensures value { Gives (λ x. (progress luma x.0 block.new count.new, x.1)) result r.new.left
-            (visit (token_in self.now.all.forest.now self.now.all.numbers) self.now.place others (progress luma stands block.old count.old) run r.old.left) }
-        ensures small { IfOk result (λ x. x.0 ≤ 64) }
+        ensures value { Gives (λ place. (progress luma place block.new count.new, run.new)) result r.new.left
+            (visit (token_in self.now.all.forest.now self.now.all.numbers) self.now.place others (progress luma stands block.old count.old) run.old r.old.left) }
+        ensures small { IfOk result (λ place. place ≤ 64) }
         ensures end { SameEnd r.old r.new }
     {
         if stands != self.place {
-            return Ok((stands, run));
+            return Ok(stands);
         }
         let after = self.turn(r, luma, run, others, block)?;
         *count = self.place;
@@ -91,16 +91,15 @@ impl PlaceTrees<'_> {
             let b = word / 64;
             let i = b as usize;
             let others = kept + (list.len() - k - 1);
-            let (stands, rest) = self.visit(
+            let stands = self.visit(
                 r,
                 self.all.is_luma(b),
                 (word % 64) as u8,
-                run,
+                &mut run,
                 others,
                 &mut values[i],
                 &mut counts[i],
             )?;
-            run = rest;
             if stands < ENDED {
                 list[kept] = word_of(b, stands);
                 kept += 1;

@@ -78,7 +78,7 @@ list-preserved c =
     let next = token_in trees.all.forest.now trees.all.numbers in
     let word : ℕ = get_or s.list s.k 0 in
     let listing = listing_here (length lumas) s.k s.kept s.list (omega arith) s.invariant.listing in
-    let after = word_more next trees.place lumas (take s.kept s.list) word (drop (s.k + 1) s.list) s.values s.counts s.run c.in_ok-stands.stands c.visit.new.block c.visit.new.count c.in_ok-stands.rest s.r.left c.visit.new.r.left
+    let after = word_more next trees.place lumas (take s.kept s.list) word (drop (s.k + 1) s.list) s.values s.counts s.run c.in_ok-stands.stands c.visit.new.block c.visit.new.count c.visit.new.run s.r.left c.visit.new.r.left
     trees.place_is c.in_ok-stands.ensures.small listing s.invariant.values_are s.invariant.counts_are
     _ _ (others_are s.k s.kept _ s.list (omega arith) s.invariant.low refl) c.is_luma.ensures c.in_ok-stands.ensures.value in
     let kept_is : IsKept s.k s.kept s.list c.if-stands-lt-ENDED.kept c.if-stands-lt-ENDED.list (word / 64) c.in_ok-stands.stands =
