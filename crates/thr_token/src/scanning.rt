@@ -33,16 +33,17 @@ impl PlaceTrees<'_> {
             (at_place (token_in self.now.all.forest.now self.now.all.numbers) self.now.place [] (standing (lumas_of self.now.all.geom.now) work.old values.old counts.old) active r.old.left) }
         ensures end { SameEnd r.old r.new }
     {
+        let place = self.place;
         let mut run = active;
         let mut open = unended(work);
         'order: for b in 0..self.all.geom.blocks() {
             let i = b as usize;
-            if work[i] == self.place {
+            if work[i] == place {
                 let luma = self.all.is_luma(b);
                 let stands = self.turn(r, luma, &mut run, open - 1, &mut values[i])?;
                 open -= usize::from(stands == ENDED);
                 work[i] = stands;
-                counts[i] = self.place;
+                counts[i] = place;
             }
         }
         Ok(run)
