@@ -1,3 +1,6 @@
+ghost use Rattle.std.specs.Prelude.{◌≡◌, length};
+ghost use Rattle.vid_geom.specs.CodedOrder.{order_of};
+
 use crate::*;
 use std::alloc::Global;
 use std::process::Abort;
@@ -60,68 +63,123 @@ fn left(r: &mut BitReader) -> usize {
     count
 }
 
-// The coefficients of a macro block in 4:2:0, whose six blocks are coded but for those from one on, and how many bits are
-// then left; or the fault. The three calls have to answer alike.
+/// What a call read, and how many bits it left.
+#[derive(Drop)]
+struct Outcome {
+    coeffs: Coeffs,
+    left: usize,
+}
+
+// By the call over lists.
+fn by_lists(
+    alloc: Global,
+    forest: &Forest,
+    geom: &Geom,
+    flags: &[bool],
+    bytes: &[u8],
+) -> Result<Result<Outcome, PacketFault>, NoMem>
+    requires { length flags.now ≡ length (order_of geom.now) }
+{
+    let mut r = BitReader::new(bytes);
+    let mut coeffs = Coeffs::new(alloc);
+    match read_tokens(&mut r, forest, geom, flags, &mut coeffs) {
+        Ok(()) => Ok(Ok(Outcome {
+            coeffs,
+            left: left(&mut r),
+        })),
+        Err(Refusal::Bad(fault)) => Ok(Err(fault)),
+        Err(Refusal::NoMem) => Err(NoMem),
+    }
+}
+
+// By the call that lends a byte a block.
+fn by_bytes(
+    alloc: Global,
+    forest: &Forest,
+    geom: &Geom,
+    flags: &[bool],
+    bytes: &[u8],
+) -> Result<Result<Outcome, PacketFault>, NoMem>
+    requires { length flags.now ≡ length (order_of geom.now) }
+{
+    let mut coeffs = Coeffs::new(alloc);
+    coeffs.values.resize(flags.len(), [7; 64])?;
+    coeffs.counts.resize(flags.len(), 7)?;
+    let mut work = Vec::new(alloc);
+    work.resize(flags.len(), 7)?;
+    let mut r = BitReader::new(bytes);
+    let values = &mut coeffs.values;
+    let counts = &mut coeffs.counts;
+    if let Err(fault) = read_tokens_in(&mut r, forest, geom, flags, values, counts, &mut work) {
+        return Ok(Err(fault));
+    }
+    Ok(Ok(Outcome {
+        coeffs,
+        left: left(&mut r),
+    }))
+}
+
+// By the call that lends a word a block.
+fn by_words(
+    alloc: Global,
+    forest: &Forest,
+    geom: &Geom,
+    flags: &[bool],
+    bytes: &[u8],
+) -> Result<Result<Outcome, PacketFault>, NoMem>
+    requires { length flags.now ≡ length (order_of geom.now) }
+{
+    let mut coeffs = Coeffs::new(alloc);
+    coeffs.values.resize(flags.len(), [0; 64])?;
+    coeffs.counts.resize(flags.len(), 7)?;
+    let mut list = Vec::new(alloc);
+    list.resize(flags.len(), 7)?;
+    let mut r = BitReader::new(bytes);
+    let values = &mut coeffs.values;
+    let counts = &mut coeffs.counts;
+    if let Err(fault) = read_tokens_with(&mut r, forest, geom, flags, values, counts, &mut list) {
+        return Ok(Err(fault));
+    }
+    Ok(Ok(Outcome {
+        coeffs,
+        left: left(&mut r),
+    }))
+}
+
+// Whether two calls answered alike.
+fn agree(a: &Result<Outcome, PacketFault>, b: &Result<Outcome, PacketFault>) -> bool {
+    match (a, b) {
+        (Ok(a), Ok(b)) => {
+            a.left == b.left
+                && a.coeffs.values.as_slice() == b.coeffs.values.as_slice()
+                && a.coeffs.counts.as_slice() == b.coeffs.counts.as_slice()
+        }
+        (Err(a), Err(b)) => *a == *b,
+        _ => false,
+    }
+}
+
+// The coefficients of a macro block in 4:2:0, whose six blocks are coded but for those from one on, or the fault. The three
+// calls have to answer alike.
 fn read(
     rt: &impl Abort,
     alloc: Global,
     coded: usize,
     bytes: &[u8],
-) -> Result<Result<(Coeffs, usize), PacketFault>, Fail> {
+) -> Result<Result<Outcome, PacketFault>, Fail> {
     let forest = forest(alloc)?;
     let shape = Shape::new(1, 1, 0).expect(rt, "no shape");
     let geom = Geom::new(alloc, shape).expect(rt, "no memory");
-    let blocks = geom.blocks() as usize;
-    let mut flags = vec![in alloc; true; blocks]?;
+    let mut flags = Vec::new(alloc);
+    flags.resize(geom.blocks() as usize, true)?;
     for b in coded..flags.len() {
         flags[b] = false;
     }
-    let mut r = BitReader::new(bytes);
-    let mut coeffs = Coeffs::new(alloc);
-    let answer = read_tokens(&mut r, &forest, &geom, &flags, &mut coeffs);
-    let rest = left(&mut r);
-
-    let mut counts = vec![in alloc; 7u8; blocks]?;
-    let mut blank = vec![in alloc; [0i16; 64]; blocks]?;
-    let mut list = vec![in alloc; 7u32; blocks]?;
-    let mut r = BitReader::new(bytes);
-    let listed = read_tokens_with(
-        &mut r,
-        &forest,
-        &geom,
-        &flags,
-        &mut blank,
-        &mut counts,
-        &mut list,
-    );
-    assert_eq!(rt; answer, listed.map_err(Refusal::Bad));
-    if listed.is_ok() {
-        assert_eq!(rt; left(&mut r), rest);
-        assert!(rt; blank.as_slice() == coeffs.values.as_slice());
-        assert!(rt; counts.as_slice() == coeffs.counts.as_slice());
-    }
-
-    let mut values = vec![in alloc; [7i16; 64]; blocks]?;
-    let mut work = vec![in alloc; 7u8; blocks]?;
-    let mut r = BitReader::new(bytes);
-    if let Err(fault) = read_tokens_in(
-        &mut r,
-        &forest,
-        &geom,
-        &flags,
-        &mut values,
-        &mut counts,
-        &mut work,
-    ) {
-        assert_eq!(rt; answer, Err(Refusal::Bad(fault)));
-        assert!(rt; coeffs.values.is_empty() && coeffs.counts.is_empty());
-        return Ok(Err(fault));
-    }
-    assert_eq!(rt; answer, Ok(()));
-    assert_eq!(rt; left(&mut r), rest);
-    assert!(rt; values.as_slice() == coeffs.values.as_slice());
-    assert!(rt; counts.as_slice() == coeffs.counts.as_slice());
-    Ok(Ok((coeffs, rest)))
+    let outcome = by_lists(alloc, &forest, &geom, &flags, bytes)?;
+    let of_bytes = by_bytes(alloc, &forest, &geom, &flags, bytes)?;
+    let of_words = by_words(alloc, &forest, &geom, &flags, bytes)?;
+    assert!(rt; agree(&outcome, &of_bytes) && agree(&outcome, &of_words));
+    Ok(outcome)
 }
 
 // Whether the values are these and all others 0.
@@ -209,7 +267,7 @@ const FAULTS: [(&[Token], PacketFault); 7] = [
 fn tokens_of_one_block_have_these_values_and_faults(rt: HostRuntime) -> Result<(), Fail> {
     for (tokens, values, count) in SAID {
         let bytes = alone(rt.alloc(), tokens)?;
-        let (coeffs, left) = read(&rt, rt.alloc(), 1, &bytes)?.expect(&rt, "a fault");
+        let Outcome { coeffs, left } = read(&rt, rt.alloc(), 1, &bytes)?.expect(&rt, "a fault");
         assert!(rt; holds(&coeffs, values), "count {count}");
         assert!(rt; coeffs.counts.as_slice() == [count, 0, 0, 0, 0, 0].as_slice());
         assert!(rt; left < 8, "count {count}");
@@ -340,7 +398,7 @@ fn runs_go_on_across_blocks_and_places_and_trees_go_by_plane_and_group(
 ) -> Result<(), Fail> {
     for (fields, coded, values, counts) in FRAMES {
         let bytes = bytes_of(rt.alloc(), fields)?;
-        let (coeffs, left) = read(&rt, rt.alloc(), coded, &bytes)?.expect(&rt, "a fault");
+        let Outcome { coeffs, left } = read(&rt, rt.alloc(), coded, &bytes)?.expect(&rt, "a fault");
         assert!(rt; holds(&coeffs, values), "{} fields", fields.len());
         assert!(rt;
             coeffs.counts.as_slice() == counts.as_slice(),
