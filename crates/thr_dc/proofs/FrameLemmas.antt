@@ -10,10 +10,10 @@ use Rattle.vid_base.specs.declared.shape.Shape.{Shape}
 use Rattle.vid_geom.specs.declared.block.Block.{Block}
 use Rattle.vid_geom.specs.CodedOrder.{IsBlock, block_columns, block_rows, order_of, place_of, plane_blocks}
 use Rattle.vid_geom.proofs.OrderLemmas.{block_at, place_at}
-use Rattle.thr_dc.specs.declared.dc.Dc.{Dc}
-use Rattle.thr_dc.specs.Frames.{IsWithin, dc_at, plane_of, raster_block, raster_place, with_dc, with_planes}
-use Rattle.thr_dc.specs.Walks.{ChangesDc, IsShort, Rewrites, RewritesAll}
-use Rattle.thr_dc.proofs.LawLemmas.{IsSmall, entry_within}
+use Rattle.thr_dc.specs.Blocks.{Coded, IsSmall}
+use Rattle.thr_dc.specs.Frames.{ChangesDc, IsWithin, dc_at, plane_of, raster_block, raster_place, with_dc, with_planes}
+use Rattle.thr_dc.specs.Walks.{IsShort, Rewrites, RewritesAll}
+use Rattle.thr_dc.proofs.LawLemmas.{entry_within}
 use Rattle.thr_dc.proofs.PlaneLemmas.{block_in_plane}
 use Rattle.thr_dc.proofs.WalkLemmas.{changes_more, changes_none}
 
@@ -48,7 +48,7 @@ standing s place d h =
     record { is = block_at s place b there; at = place_at s place b there }
 
 -- the values are those of the planes
-pub rewritten : (f : ℕ → List (Option Dc) → List (Option Dc)) (s : Shape) (flags : List Bool) (kinds : List ℕ) (old new : List (List ℤ)) → length old ≡ length (order_of s)
+pub rewritten : (f : ℕ → List (Option Coded) → List (Option Coded)) (s : Shape) (flags : List Bool) (kinds : List ℕ) (old new : List (List ℤ)) → length old ≡ length (order_of s)
     → ((pli : ℕ) → pli < 3 → plane_of s flags kinds new pli ≡ f (block_columns s pli) (plane_of s flags kinds old pli)) → ChangesDc flags old new → new ≡ with_planes f s flags kinds old
 unfolding with_planes
 rewritten f s flags kinds old new long planes changes =
@@ -77,16 +77,16 @@ changes_back flags old new changes = record {
 }
 
 -- the planes before one become what f makes of them, and the others stay
-pub record RewritesBefore (f : ℕ → List (Option Dc) → List (Option Dc)) (s : Shape) (flags : List Bool) (kinds : List ℕ) (past : ℕ) (old new : List (List ℤ)) : Type 0 where
+pub record RewritesBefore (f : ℕ → List (Option Coded) → List (Option Coded)) (s : Shape) (flags : List Bool) (kinds : List ℕ) (past : ℕ) (old new : List (List ℤ)) : Type 0 where
   pub done : (pli : ℕ) → pli < 3 → pli < past → plane_of s flags kinds new pli ≡ f (block_columns s pli) (plane_of s flags kinds old pli)
   pub short : (pli : ℕ) → pli < 3 → pli < past → All IsShort (plane_of s flags kinds old pli)
   pub ahead : (pli : ℕ) → pli < 3 → past ≤ pli → plane_of s flags kinds new pli ≡ plane_of s flags kinds old pli
   pub changes : ChangesDc flags old new
 
-pub planes_none : (f : ℕ → List (Option Dc) → List (Option Dc)) (s : Shape) (flags : List Bool) (kinds : List ℕ) (old : List (List ℤ)) → RewritesBefore f s flags kinds 0 old old
+pub planes_none : (f : ℕ → List (Option Coded) → List (Option Coded)) (s : Shape) (flags : List Bool) (kinds : List ℕ) (old : List (List ℤ)) → RewritesBefore f s flags kinds 0 old old
 planes_none f s flags kinds old = record { done = λ pli h l. absurd (omega arith); short = λ pli h l. absurd (omega arith); ahead = λ pli h l. refl; changes = changes_none flags old }
 
-pub planes_more : (f : ℕ → List (Option Dc) → List (Option Dc)) (s : Shape) (flags : List Bool) (kinds : List ℕ) (past : ℕ) (old now new : List (List ℤ)) → past < 3 → RewritesBefore f s flags kinds past old now → Rewrites f s flags kinds past now new
+pub planes_more : (f : ℕ → List (Option Coded) → List (Option Coded)) (s : Shape) (flags : List Bool) (kinds : List ℕ) (past : ℕ) (old now new : List (List ℤ)) → past < 3 → RewritesBefore f s flags kinds past old now → Rewrites f s flags kinds past now new
     → RewritesBefore f s flags kinds (past + 1) old new
 planes_more f s flags kinds past old now new h before here = record {
   done = λ pli p l. elim (cases_eq pli past) as (λ _. plane_of s flags kinds new pli ≡ f (block_columns s pli) (plane_of s flags kinds old pli)) [
@@ -98,7 +98,7 @@ planes_more f s flags kinds past old now new h before here = record {
   ];
   short = λ pli p l. elim (cases_eq pli past) as (λ _. All IsShort (plane_of s flags kinds old pli)) [
     | inl same ↦
-        let P : List (Option Dc) → Type 0 = All IsShort in
+        let P : List (Option Coded) → Type 0 = All IsShort in
         let Q : ℕ → Type 0 = λ n. All IsShort (plane_of s flags kinds old n) in
         let ahead : plane_of s flags kinds now past ≡ plane_of s flags kinds old past = before.ahead past h (omega arith) in
         subst Q (sym same) (subst P ahead here.short)
@@ -108,7 +108,7 @@ planes_more f s flags kinds past old now new h before here = record {
   changes = changes_more flags old now new before.changes here.rest.changes;
 }
 
-pub planes_all : (f : ℕ → List (Option Dc) → List (Option Dc)) (s : Shape) (flags : List Bool) (kinds : List ℕ) (past : ℕ) (old new : List (List ℤ)) → 3 ≤ past → RewritesBefore f s flags kinds past old new → RewritesAll f s flags kinds old new
+pub planes_all : (f : ℕ → List (Option Coded) → List (Option Coded)) (s : Shape) (flags : List Bool) (kinds : List ℕ) (past : ℕ) (old new : List (List ℤ)) → 3 ≤ past → RewritesBefore f s flags kinds past old new → RewritesAll f s flags kinds old new
 planes_all f s flags kinds past old new h before = record { planes = λ pli p. before.done pli p (omega arith); short = λ pli p. before.short pli p (omega arith); changes = before.changes }
 
 dc_within : (n : ℕ) (flags : List Bool) (kinds : List ℕ) (values : List (List ℤ)) (place : ℕ) → IsWithin n flags values → IsSmall n (dc_at flags kinds values place)
@@ -145,13 +145,13 @@ frame_within n s flags kinds values long small place e =
     let block : get_or (plane_of s flags kinds values b.pli) (raster_place s b) None ≡ dc_at flags kinds values place = at_raster_place s flags kinds values b stands.is ∙ ap (dc_at flags kinds values) stands.at in
     dc_from n flags kinds values place e (subst (IsSmall n) block (entry_within n (plane_of s flags kinds values b.pli) (raster_place s b) (small b.pli stands.is.0)))
 
-with_dc_within : (n : ℕ) (block : Option Dc) (entry : List ℤ) → IsSmall n block → unsigned_abs (get_or entry 0 (pos 0)) ≤ n → unsigned_abs (get_or (with_dc block entry) 0 (pos 0)) ≤ n
+with_dc_within : (n : ℕ) (block : Option Coded) (entry : List ℤ) → IsSmall n block → unsigned_abs (get_or entry 0 (pos 0)) ≤ n → unsigned_abs (get_or (with_dc block entry) 0 (pos 0)) ≤ n
 with_dc_within n None entry small h = h
 with_dc_within n (Some dc) [] small h = h
 with_dc_within n (Some dc) (x ∷ xs) small h = small
 
 -- where small values become small ones, so do those of the frame
-pub with_planes_within : (n : ℕ) (f : ℕ → List (Option Dc) → List (Option Dc)) (s : Shape) (flags : List Bool) (kinds : List ℕ) (values : List (List ℤ)) → length flags ≡ length (order_of s)
+pub with_planes_within : (n : ℕ) (f : ℕ → List (Option Coded) → List (Option Coded)) (s : Shape) (flags : List Bool) (kinds : List ℕ) (values : List (List ℤ)) → length flags ≡ length (order_of s)
     → ((pli : ℕ) → pli < 3 → All (IsSmall n) (f (block_columns s pli) (plane_of s flags kinds values pli))) → IsWithin n flags values → IsWithin n flags (with_planes f s flags kinds values)
 unfolding with_planes
 with_planes_within n f s flags kinds values long small within place e =

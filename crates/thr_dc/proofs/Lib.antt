@@ -4,3 +4,4 @@ pub mod PredictionLemmas
 pub mod WalkLemmas
 pub mod FrameLemmas
 pub mod LawLemmas
+pub mod OrderedLemmas

@@ -3,36 +3,36 @@ use Rattle.std.proofs.Common.{◌≡◌, ◌∙◌, ℕ, ◌+◌, ◌-◌, ◌%�
 use Rattle.std.specs.Option.{unwrap_or}
 use Rattle.std.proofs.lemmas.List.Sums.{fold_more}
 use Rattle.std.proofs.lemmas.List.{get_or-take, length-take-le}
-use Rattle.thr_dc.specs.declared.dc.Dc.{Dc}
+use Rattle.thr_dc.specs.Blocks.{Coded}
 use Rattle.std.proofs.lemmas.Bool.Decides.{nat_tests}
 use Rattle.thr_dc.specs.Predictor.{from_neighbours}
 use Rattle.thr_dc.specs.Prediction.{around, counted, last_of, neighbour}
 
-last_more : (kind : ℕ) (blocks : List (Option Dc)) (place : ℕ) → place < length blocks → last_of kind (take (place + 1) blocks) ≡ unwrap_or (counted kind (get_or blocks place None)) (last_of kind (take place blocks))
+last_more : (kind : ℕ) (blocks : List (Option Coded)) (place : ℕ) → place < length blocks → last_of kind (take (place + 1) blocks) ≡ unwrap_or (counted kind (get_or blocks place None)) (last_of kind (take place blocks))
 unfolding last_of
 last_more kind blocks place h = fold_more (λ last block. unwrap_or (counted kind block) last) (pos 0) blocks place None h
 
 -- the last block has the kind
-pub last_found : (kind : ℕ) (blocks : List (Option Dc)) (past : ℕ) (value : ℤ) → 0 < past → past ≤ length blocks → Some value ≡ counted kind (get_or blocks (past - 1) None) → last_of kind (take past blocks) ≡ value
+pub last_found : (kind : ℕ) (blocks : List (Option Coded)) (past : ℕ) (value : ℤ) → 0 < past → past ≤ length blocks → Some value ≡ counted kind (get_or blocks (past - 1) None) → last_of kind (take past blocks) ≡ value
 last_found kind blocks past value some h e =
     let next : past - 1 + 1 ≡ past = omega arith in
     let more = last_more kind blocks (past - 1) (omega arith) in
     (rw next at more) ∙ rw (← e) refl
 
 -- the last block does not count
-pub last_passed : (kind : ℕ) (blocks : List (Option Dc)) (past : ℕ) → 0 < past → past ≤ length blocks → None ≡ counted kind (get_or blocks (past - 1) None) → last_of kind (take (past - 1) blocks) ≡ last_of kind (take past blocks)
+pub last_passed : (kind : ℕ) (blocks : List (Option Coded)) (past : ℕ) → 0 < past → past ≤ length blocks → None ≡ counted kind (get_or blocks (past - 1) None) → last_of kind (take (past - 1) blocks) ≡ last_of kind (take past blocks)
 last_passed kind blocks past some h e =
     let next : past - 1 + 1 ≡ past = omega arith in
     let more = last_more kind blocks (past - 1) (omega arith) in
     sym ((rw next at more) ∙ rw (← e) refl)
 
 -- what stands before a block is the same in the plane and in its front
-before_place : (kind : ℕ) (blocks : List (Option Dc)) (past place : ℕ) (there : Bool) → (there ≡ true → place < past) → neighbour kind (take past blocks) there place ≡ neighbour kind blocks there place
+before_place : (kind : ℕ) (blocks : List (Option Coded)) (past place : ℕ) (there : Bool) → (there ≡ true → place < past) → neighbour kind (take past blocks) there place ≡ neighbour kind blocks there place
 before_place kind blocks past place true h = ap (counted kind) (get_or-take past blocks place None (h refl))
 before_place kind blocks past place false h = refl
 
 -- what the neighbours in the plane predict
-pub around_at : (w kind place : ℕ) (blocks : List (Option Dc)) → 0 < w → place ≤ length blocks
+pub around_at : (w kind place : ℕ) (blocks : List (Option Coded)) → 0 < w → place ≤ length blocks
     → around w (take place blocks) kind ≡ from_neighbours
     (neighbour kind blocks (nat_lt 0 (place % w)) (place - 1))
     (neighbour kind blocks (nat_lt 0 (place % w) && nat_le w place) (place - w - 1))

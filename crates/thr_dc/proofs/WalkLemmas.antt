@@ -9,10 +9,10 @@ use Rattle.vid_base.specs.declared.shape.Shape.{Shape}
 use Rattle.vid_geom.specs.declared.block.Block.{Block}
 use Rattle.vid_geom.specs.CodedOrder.{IsBlock, block_columns, block_rows, place_of, plane_blocks}
 use Rattle.vid_geom.proofs.OrderLemmas.{place_apart}
-use Rattle.thr_dc.specs.declared.dc.Dc.{Dc}
-use Rattle.thr_dc.specs.Frames.{dc_at, plane_of, raster_block}
+use Rattle.thr_dc.specs.Blocks.{Coded}
+use Rattle.thr_dc.specs.Frames.{ChangesDc, dc_at, plane_of, raster_block}
 use Rattle.thr_dc.specs.Prediction.{by_new, by_old, changed}
-use Rattle.thr_dc.specs.Walks.{ChangesDc, ChangesIn, IsShort}
+use Rattle.thr_dc.specs.Walks.{ChangesIn, IsShort}
 use Rattle.thr_dc.proofs.PlaneLemmas.{block_in_plane, coded_block, column_below, plane_long, row_below}
 
 -- a place of a plane has a block of the frame
@@ -46,7 +46,7 @@ pub plane_set : (s : Shape) (flags : List Bool) (kinds : List ℕ) (values : Lis
 plane_set s flags kinds values pli place at value p h e flag within some =
     let entry = set (get_or values at []) 0 value in
     let new = set values at entry in
-    let block : Option Dc = Some (record { kind = get_or kinds at 0; value = value }) in
+    let block : Option Coded = Some (record { kind = get_or kinds at 0; value = value }) in
     let long = plane_long s flags kinds values pli in
     ext_get_or None (plane_of s flags kinds new pli) (set (plane_of s flags kinds values pli) place block)
     (plane_long s flags kinds new pli ∙ sym (length-set (plane_of s flags kinds values pli) place block ∙ long))
@@ -119,7 +119,7 @@ pub changes_in_more : (s : Shape) (flags : List Bool) (kinds : List ℕ) (pli : 
 changes_in_more s flags kinds pli a b c x y = record { changes = changes_more flags a b c x.changes y.changes; others = λ other h apart. y.others other h apart ∙ x.others other h apart }
 
 -- upwards: the blocks so far are new, and what becomes of the rest behind them makes the whole
-pub by_new_more : (f : ℤ → ℤ → ℤ) (w place : ℕ) (now new all : List (Option Dc)) → place < length now → new ≡ set now place (changed f w (take place now) (get_or now place None))
+pub by_new_more : (f : ℤ → ℤ → ℤ) (w place : ℕ) (now new all : List (Option Coded)) → place < length now → new ≡ set now place (changed f w (take place now) (get_or now place None))
     → take place now ++ by_new f w (take place now) (drop place now) ≡ all → take (place + 1) new ++ by_new f w (take (place + 1) new) (drop (place + 1) new) ≡ all
 unfolding by_new
 by_new_more f w place now new all h e inv =
@@ -129,17 +129,17 @@ by_new_more f w place now new all h e inv =
     let whole = rw (drop_more now place None h) at inv in
     rw (front, rest) (append_assoc (take place now) (block ∷ []) (by_new f w (take place now ++ block ∷ []) (drop (place + 1) now)) ∙ whole)
 
-pub by_new_all : (f : ℤ → ℤ → ℤ) (w place : ℕ) (now all : List (Option Dc)) → length now ≤ place → take place now ++ by_new f w (take place now) (drop place now) ≡ all → now ≡ all
+pub by_new_all : (f : ℤ → ℤ → ℤ) (w place : ℕ) (now all : List (Option Coded)) → length now ≤ place → take place now ++ by_new f w (take place now) (drop place now) ≡ all → now ≡ all
 unfolding by_new
 by_new_all f w place now all h inv =
     let whole = rw (take_all place now h, drop_all place now h) at inv in
     sym (append-nil now) ∙ whole
 
 -- downwards: the blocks before a place are old, and those behind it have become what they become
-abbrev pub IsHalfWay : (ℤ → ℤ → ℤ) → ℕ → ℕ → List (Option Dc) → List (Option Dc) → Type 0
+abbrev pub IsHalfWay : (ℤ → ℤ → ℤ) → ℕ → ℕ → List (Option Coded) → List (Option Coded) → Type 0
 IsHalfWay f w past old now = now ≡ take past old ++ by_old f w (take past old) (drop past old)
 
-by_old_next : (f : ℤ → ℤ → ℤ) (w place : ℕ) (old now new : List (Option Dc)) → place < length old → new ≡ set now place (changed f w (take place now) (get_or now place None))
+by_old_next : (f : ℤ → ℤ → ℤ) (w place : ℕ) (old now new : List (Option Coded)) → place < length old → new ≡ set now place (changed f w (take place now) (get_or now place None))
     → IsHalfWay f w (place + 1) old now → IsHalfWay f w place old new
 unfolding by_old
 by_old_next f w place old now new h e inv =
@@ -154,28 +154,28 @@ by_old_next f w place old now new h e inv =
     e ∙ ap (λ l. set now place (changed f w l (get_or now place None))) before ∙ ap (λ b. set now place (changed f w front b)) at
     ∙ ap (λ l. set l place block) whole ∙ set_at front here rest block place long ∙ sym (ap (λ l. front ++ by_old f w front l) (drop_more old place None h))
 
-pub by_old_more : (f : ℤ → ℤ → ℤ) (w past : ℕ) (old now new : List (Option Dc)) → 0 < past → past ≤ length old → new ≡ set now (past - 1) (changed f w (take (past - 1) now) (get_or now (past - 1) None))
+pub by_old_more : (f : ℤ → ℤ → ℤ) (w past : ℕ) (old now new : List (Option Coded)) → 0 < past → past ≤ length old → new ≡ set now (past - 1) (changed f w (take (past - 1) now) (get_or now (past - 1) None))
     → IsHalfWay f w past old now → IsHalfWay f w (past - 1) old new
 by_old_more f w past old now new some h e inv =
     let next : past ≡ past - 1 + 1 = omega arith in
     let P : ℕ → Type 0 = λ n. IsHalfWay f w n old now in
     by_old_next f w (past - 1) old now new (omega arith) e (subst P next inv)
 
-pub by_old_none : (f : ℤ → ℤ → ℤ) (w past : ℕ) (old : List (Option Dc)) → length old ≤ past → IsHalfWay f w past old old
+pub by_old_none : (f : ℤ → ℤ → ℤ) (w past : ℕ) (old : List (Option Coded)) → length old ≤ past → IsHalfWay f w past old old
 unfolding by_old
 by_old_none f w past old h = rw (take_all past old h, drop_all past old h) (sym (append-nil old))
 
-pub by_old_all : (f : ℤ → ℤ → ℤ) (w past : ℕ) (old now : List (Option Dc)) → past ≡ 0 → IsHalfWay f w past old now → now ≡ by_old f w [] old
+pub by_old_all : (f : ℤ → ℤ → ℤ) (w past : ℕ) (old now : List (Option Coded)) → past ≡ 0 → IsHalfWay f w past old now → now ≡ by_old f w [] old
 by_old_all f w past old now done inv =
     let P : ℕ → Type 0 = λ n. IsHalfWay f w n old now in
     subst P done inv
 
 -- upwards the blocks from a place on are still old
-pub ahead_more : (now new old : List (Option Dc)) (place : ℕ) (block : Option Dc) → new ≡ set now place block → drop place now ≡ drop place old → drop (place + 1) new ≡ drop (place + 1) old
+pub ahead_more : (now new old : List (Option Coded)) (place : ℕ) (block : Option Coded) → new ≡ set now place block → drop place now ≡ drop place old → drop (place + 1) new ≡ drop (place + 1) old
 ahead_more now new old place block e ahead =
     ap (drop (place + 1)) e ∙ drop-set-lt (place + 1) now place block (omega arith) ∙ sym (drop-drop 1 place now) ∙ ap (drop 1) ahead ∙ drop-drop 1 place old
 
-pub ahead_at : (now old : List (Option Dc)) (place : ℕ) → drop place now ≡ drop place old → get_or now place None ≡ get_or old place None
+pub ahead_at : (now old : List (Option Coded)) (place : ℕ) → drop place now ≡ drop place old → get_or now place None ≡ get_or old place None
 ahead_at now old place ahead =
     let same : place + 0 ≡ place = omega arith in
     let left = get_or-drop place now 0 None in
@@ -183,17 +183,17 @@ ahead_at now old place ahead =
     (rw same at (sym left)) ∙ ap (λ l. get_or l 0 None) ahead ∙ (rw same at right)
 
 -- and so are the values of 16 bits found there
-pub short_more : (now old : List (Option Dc)) (place : ℕ) → place < length old → drop place now ≡ drop place old → IsShort (get_or now place None) → All IsShort (take place old) → All IsShort (take (place + 1) old)
+pub short_more : (now old : List (Option Coded)) (place : ℕ) → place < length old → drop place now ≡ drop place old → IsShort (get_or now place None) → All IsShort (take place old) → All IsShort (take (place + 1) old)
 short_more now old place h ahead here before = All-more IsShort old place None h before (subst IsShort (ahead_at now old place ahead) here)
 
 -- downwards the block before a place is still old
-half_way_at : (f : ℤ → ℤ → ℤ) (w past : ℕ) (old now : List (Option Dc)) → 0 < past → past ≤ length old → IsHalfWay f w past old now → get_or now (past - 1) None ≡ get_or old (past - 1) None
+half_way_at : (f : ℤ → ℤ → ℤ) (w past : ℕ) (old now : List (Option Coded)) → 0 < past → past ≤ length old → IsHalfWay f w past old now → get_or now (past - 1) None ≡ get_or old (past - 1) None
 half_way_at f w past old now some h inv =
     let front = take past old in
     let long : length front ≡ past = length-take-le past old h in
     ap (λ l. get_or l (past - 1) None) inv ∙ get_or_append_left front (by_old f w front (drop past old)) None (past - 1) (omega arith) ∙ get_or-take past old (past - 1) None (omega arith)
 
-pub short_back : (f : ℤ → ℤ → ℤ) (w past : ℕ) (old now : List (Option Dc)) → 0 < past → past ≤ length old → IsHalfWay f w past old now → IsShort (get_or now (past - 1) None) → All IsShort (drop past old) → All IsShort (drop (past - 1) old)
+pub short_back : (f : ℤ → ℤ → ℤ) (w past : ℕ) (old now : List (Option Coded)) → 0 < past → past ≤ length old → IsHalfWay f w past old now → IsShort (get_or now (past - 1) None) → All IsShort (drop past old) → All IsShort (drop (past - 1) old)
 short_back f w past old now some h inv here behind =
     let next : past - 1 + 1 ≡ past = omega arith in
     let at : IsShort (get_or old (past - 1) None) = subst IsShort (half_way_at f w past old now some h inv) here in

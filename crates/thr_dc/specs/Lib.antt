@@ -1,3 +1,4 @@
+pub mod Blocks
 pub mod Predictor
 pub mod Prediction
 pub mod Frames

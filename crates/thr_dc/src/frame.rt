@@ -2,7 +2,7 @@
 ghost use Rattle.std.specs.Prelude.{◌≡◌, length};
 ghost use Rattle.vid_geom.specs.CodedOrder.{order_of};
 ghost use Rattle.thr_dc.specs.Changes.{plane_by};
-ghost use Rattle.thr_dc.specs.Frames.{IsWithin, with_planes};
+ghost use Rattle.thr_dc.specs.Frames.{ChangesDc, IsWithin, with_planes};
 ghost use Rattle.thr_dc.specs.Prediction.{applied, limited, undone};
 ghost use Rattle.thr_dc.specs.Walks.{RewritesAll};
 
@@ -49,6 +49,7 @@ pub fn undo_dc(geom: &Geom, flags: &[bool], kinds: &[u8], coeffs: &mut Coeffs)
     requires kinds { length kinds.now ≡ length (order_of geom.now) }
     requires values { length coeffs.old.values.items ≡ length (order_of geom.now) }
     ensures value { coeffs.new.values.items ≡ with_planes undone geom.now flags.now kinds.now coeffs.old.values.items }
+    ensures changes { ChangesDc flags.now coeffs.old.values.items coeffs.new.values.items }
     ensures sized { length coeffs.new.values.items ≡ length (order_of geom.now) }
     ensures counts { coeffs.new.counts.items ≡ coeffs.old.counts.items }
 {
@@ -62,6 +63,7 @@ pub fn apply_dc(geom: &Geom, flags: &[bool], kinds: &[u8], coeffs: &mut Coeffs)
     requires values { length coeffs.old.values.items ≡ length (order_of geom.now) }
     ensures value { coeffs.new.values.items ≡ with_planes applied geom.now flags.now kinds.now coeffs.old.values.items }
     ensures reads_back { with_planes undone geom.now flags.now kinds.now coeffs.new.values.items ≡ coeffs.old.values.items }
+    ensures changes { ChangesDc flags.now coeffs.old.values.items coeffs.new.values.items }
     ensures sized { length coeffs.new.values.items ≡ length (order_of geom.now) }
     ensures counts { coeffs.new.counts.items ≡ coeffs.old.counts.items }
 {
@@ -79,6 +81,7 @@ pub fn limit_dc(geom: &Geom, flags: &[bool], kinds: &[u8], coeffs: &mut Coeffs)
     ensures value { coeffs.new.values.items ≡ with_planes limited geom.now flags.now kinds.now coeffs.old.values.items }
     ensures within { IsWithin 580 flags.now coeffs.new.values.items }
     ensures differences { IsWithin 580 flags.now (with_planes applied geom.now flags.now kinds.now coeffs.new.values.items) }
+    ensures changes { ChangesDc flags.now coeffs.old.values.items coeffs.new.values.items }
     ensures sized { length coeffs.new.values.items ≡ length (order_of geom.now) }
     ensures counts { coeffs.new.counts.items ≡ coeffs.old.counts.items }
 {

@@ -7,14 +7,15 @@
 #![tactic(auto)]
 
 mod change;
-mod dc;
 mod frame;
+mod laws;
 mod plane;
 mod prediction;
 mod predictor;
 mod walk;
 
 pub use frame::{apply_dc, limit_dc, undo_dc};
+pub use laws::{dc_values_are_made_in_order, only_dc_values_change};
 
 #[cfg(test)]
 mod tests;

@@ -6,7 +6,6 @@ ghost use Rattle.thr_dc.specs.Planes.{IsPlane};
 ghost use Rattle.thr_dc.specs.Prediction.{around, counted, last_of, neighbour, predicted};
 ghost use Rattle.thr_dc.specs.Walks.{blocks_of};
 
-use crate::dc::Dc;
 use crate::plane::Plane;
 use crate::predictor::from_neighbours;
 use vid_geom::{Block, Geom};
@@ -50,38 +49,20 @@ impl Plane<'_> {
         self.geom.place(block) as usize
     }
 
-    // The DC value of a block, if it is coded.
-    fn dc(&self, values: &[[i16; 64]], place: u32) -> Option<Dc>
-        requires place { place < self.now.blocks }
-        requires values { length values.now ≡ length (order_of self.now.geom.now) }
-        ensures { result ≡ get_or (blocks_of self.now values.now) place None }
-    {
-        let coded_place = self.coded_place(place);
-        if !self.flags[coded_place] {
-            return None;
-        }
-        Some(Dc {
-            kind: self.kinds[coded_place],
-            value: values[coded_place][0],
-        })
-    }
-
     // The DC value of a block, where it counts for a kind.
     fn counted(&self, values: &[[i16; 64]], place: u32, kind: u8) -> Option<i16>
         requires place { place < self.now.blocks }
         requires values { length values.now ≡ length (order_of self.now.geom.now) }
         ensures { result ≡ counted kind (get_or (blocks_of self.now values.now) place None) }
     {
-        match self.dc(values, place) {
-            None => None,
-            Some(dc) => {
-                if dc.kind == kind {
-                    Some(dc.value)
-                } else {
-                    None
-                }
-            }
+        let coded_place = self.coded_place(place);
+        if !self.flags[coded_place] {
+            return None;
         }
+        if self.kinds[coded_place] != kind {
+            return None;
+        }
+        Some(values[coded_place][0])
     }
 
     // The value of the block at a place, where there is such a block and it counts.

@@ -1,6 +1,6 @@
 // The 80 trees of a setup header (Theora I, 6.4.4 and 7.7.3).
 ghost use Rattle.std.specs.Prelude.{◌≡◌, ◌<◌, ◌++◌, [], ℕ, List, Bool, Some, Ok, map, IsSome, IfOk, IfSome, IfNone, OnOk, OnErr, IsTrue, ◌↔◌, ◌+◌, ◌*◌, option_map};
-ghost use Rattle.vid_base.specs.Reading.{GivesOrNoMem, Taken};
+ghost use Rattle.vid_base.specs.Reading.{GivesOrNoMem, SameEnd, Taken};
 ghost use Rattle.thr_huff.specs.CodeTree.{code_tree};
 ghost use Rattle.thr_huff.specs.Codes.{codes_at, front_token, code_of, code_bits};
 ghost use Rattle.thr_huff.specs.Trees.{IsForest, forest_at, forest_bits};
@@ -88,6 +88,7 @@ impl Forest {
         requires { hti < 80 }
         ensures value { Taken result r.new.left (front_token (codes_at self.now hti) r.old.left) }
         ensures ended { OnErr result (r.new.left ≡ []) }
+        ensures end { SameEnd r.old r.new }
         ensures small { IfOk result (λ token. token < 32) }
     {
         let book = &self.books[usize::from(hti)];

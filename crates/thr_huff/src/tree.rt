@@ -1,6 +1,6 @@
 // One tree: reading, writing, its codes, and a walk by the bits of a packet (Theora I, 6.4.4 and 7.7.3).
 ghost use Rattle.std.specs.Prelude.{◌≡◌, ◌≤◌, ◌<◌, ◌+◌, ◌∷◌, ◌++◌, [], List, Bool, All, length, IfOk, OnOk, OnErr, option_map};
-ghost use Rattle.vid_base.specs.Reading.{GivesOrNoMem, Taken};
+ghost use Rattle.vid_base.specs.Reading.{GivesOrNoMem, SameEnd, Taken};
 ghost use Rattle.thr_huff.specs.CodeTree.{code_tree, Token, Fork};
 ghost use Rattle.thr_huff.specs.Codes.{codes_of, code_of, code_bits, front_token};
 ghost use Rattle.thr_huff.specs.Trees.{FitsLevels, tree_at, tree_bits};
@@ -93,6 +93,7 @@ pub(crate) fn write_tree(w: &mut BitWriter, tree: &Tree) -> Result<(), NoMem>
 pub(crate) fn walk(tree: &Tree, r: &mut BitReader) -> Result<u8, Ended>
     ensures value { Taken result r.new.left (front_token (codes_of (code_tree tree.now)) r.old.left) }
     ensures ended { OnErr result (r.new.left ≡ []) }
+    ensures end { SameEnd r.old r.new }
 {
     match tree {
         Tree::Leaf(token) => Ok(*token),

@@ -7,3 +7,6 @@ pub mod AddingLemmas
 pub mod ReadingLemmas
 pub mod TellingLemmas
 pub mod TokenisedLemmas
+pub mod ListingLemmas
+pub mod WaitingLemmas
+pub mod RowLemmas

@@ -1,4 +1,4 @@
--- The blocks at one place: one more block, a fault, the end. `Trees::at_place` and its callers cite these.
+-- The blocks at one place: one more block, a fault, the end. `PlaceTrees::scan` and its callers cite these.
 use Rattle.std.proofs.Common.{◌≡◌, ◌∙◌, ℕ, suc, ◌+◌, ◌-◌, ◌<◌, ◌≤◌, ◌≢◌, ℤ, Bool, true, false, List, [], ◌∷◌, length, get_or, set, take, drop, Ok, Err, refl, ap, sym, arith}
 use Rattle.std.proofs.lemmas.List.{drop_all, drop-set-lt, take_all, take_more, take_more_set}
 use Rattle.std.proofs.Math.Dec.{eqb}
@@ -9,7 +9,7 @@ use Rattle.thr_token.specs.Coefficients.{Progress, Source, at_place, places, tur
 use Rattle.thr_token.specs.Standing.{progress, standing}
 use Rattle.thr_token.proofs.StandingLemmas.{AreEven, length_standing, standing_at, standing_set, unended_before, unended_behind}
 
-here : {X : Type 0} (xs : List X) (b : ℕ) (d : X) → b < length xs → drop b xs ≡ get_or xs b d ∷ drop (b + 1) xs
+pub here : {X : Type 0} (xs : List X) (b : ℕ) (d : X) → b < length xs → drop b xs ≡ get_or xs b d ∷ drop (b + 1) xs
 here xs b d h = let next : suc b ≡ b + 1 = omega arith in drop-cons xs b d h ∙ ap (λ k. get_or xs b d ∷ drop k xs) next
 
 -- one block more

@@ -1,6 +1,11 @@
 -- The progress of blocks and the lists of its parts: one block, a change of one block, the parts by themselves. The readers of places cite these.
-use Rattle.std.proofs.Common.{◌≡◌, ◌∙◌, ℕ, zero, suc, ◌<◌, ℤ, Bool, false, List, [], ◌∷◌, length, map, get_or, set, take, drop, refl, ap, sym, arith}
-use Rattle.std.proofs.lemmas.List.{drop-map, take-map}
+use Rattle.std.proofs.Common.{◌≡◌, ◌∙◌, ℕ, zero, suc, ◌<◌, ℤ, Bool, false, List, [], ◌∷◌, length, map, get_or, set, take, drop, refl, ap, sym, arith, ◌++◌, ◌+◌, length-append}
+use Rattle.std.specs.Prelude.{cond, nat_lt, filter}
+use Rattle.std.proofs.lemmas.List.{append_assoc, drop-map, drop-set-lt, take-append-drop, take-map, take_more_set}
+use Rattle.std.proofs.Math.Seq.{drop-cons}
+use Rattle.std.proofs.lemmas.Bool.{lt-ltb}
+use Rattle.std.proofs.lemmas.List.Elements.{filter-append}
+use Rattle.std.proofs.lemmas.List.Sums.{length-filter}
 use Rattle.thr_token.specs.Coefficients.{Progress, unended, unended_at}
 use Rattle.thr_token.specs.Standing.{progress, standing}
 
@@ -89,3 +94,28 @@ pub unended_behind : (lumas : List Bool) (places : List ℕ) (values : List (Lis
 unfolding unended
 unended_behind lumas places values counts n even =
     ap unended_at (sym (drop-map (λ b. b.place) n (standing lumas places values counts)) ∙ ap (drop n) (places_in lumas places values counts even))
+
+unended_append : (front rest : List ℕ) → unended_at (front ++ rest) ≡ unended_at front + unended_at rest
+unended_append front rest =
+    let test : ℕ → Bool = λ place. nat_lt place 64 in
+    sym (length-filter test (front ++ rest)) ∙ ap length (filter-append test front rest) ∙ length-append (filter test front) (filter test rest)
+    ∙ rw (length-filter test front, length-filter test rest) refl
+
+-- one block among the others, which has not ended or has
+pub unended_around : (front : List ℕ) (place : ℕ) (rest : List ℕ) → unended_at (front ++ place ∷ rest) ≡ unended_at front + unended_at rest + cond (nat_lt place 64) 1 0
+unended_around front place rest = omega (arith, unended_append front (place ∷ rest), unended_append (place ∷ []) rest)
+
+-- the others are one fewer where this one has not ended
+pub unended_others : (places : List ℕ) (b : ℕ) → b < length places → get_or places b 0 < 64 → unended_at places ≡ unended_at (take b places) + unended_at (drop (b + 1) places) + 1
+unended_others places b h below =
+    let next : suc b ≡ b + 1 = omega arith in
+    let apart : places ≡ take b places ++ get_or places b 0 ∷ drop (b + 1) places =
+    sym (take-append-drop b places) ∙ ap (λ z. take b places ++ z) (drop-cons places b 0 h ∙ ap (λ k. get_or places b 0 ∷ drop k places) next) in
+    ap unended_at apart ∙ unended_around (take b places) (get_or places b 0) (drop (b + 1) places) ∙ rw (lt-ltb (get_or places b 0) 64 below) refl
+
+-- and this one is counted where it then has not
+pub unended_set : (places : List ℕ) (b place : ℕ) → b < length places → unended_at (set places b place) ≡ unended_at (take b places) + unended_at (drop (b + 1) places) + cond (nat_lt place 64) 1 0
+unended_set places b place h =
+    let apart : set places b place ≡ take b places ++ place ∷ drop (b + 1) places =
+    sym (take-append-drop (b + 1) (set places b place)) ∙ rw (take_more_set places b place h, drop-set-lt (b + 1) places b place (omega arith)) (append_assoc (take b places) (place ∷ []) (drop (b + 1) places)) in
+    ap unended_at apart ∙ unended_around (take b places) place (drop (b + 1) places)

@@ -1,9 +1,10 @@
 -- What is written of tokens, and that it is read as their list is read. The writers cite these.
-use Rattle.std.proofs.Common.{◌≡◌, ◌∙◌, ℕ, ◌<◌, ◌≤◌, Bool, true, false, cond, not, List, [], ◌∷◌, ◌++◌, Option, Some, None, Result, Ok, Err, refl, ap, sym, subst, append_assoc, arith, All}
+use Rattle.std.proofs.Common.{◌≡◌, ◌∙◌, ℕ, ◌<◌, ◌≤◌, Bool, true, false, cond, not, List, [], ◌∷◌, ◌++◌, Option, Some, None, Result, Ok, Err, refl, ap, sym, subst, suc, ◌+◌, length, length-append, append_assoc, arith, All}
 use Rattle.std.specs.Prelude.{filter, flat_map, IsSome, ℤ}
 use Rattle.std.proofs.lemmas.Bool.{ne_eqb, not-true}
 use Rattle.std.proofs.lemmas.List.{append-nil}
 use Rattle.std.proofs.lemmas.List.Elements.{All-head, All-tail, filter-append}
+use Rattle.std.proofs.lemmas.List.Sums.{length-filter}
 use Rattle.std.proofs.lemmas.Grind.{flat_map-append}
 use Rattle.std.proofs.Math.Dec.{eqb}
 use Rattle.vid_base.specs.declared.shape.Shape.{Shape}
@@ -11,6 +12,7 @@ use Rattle.vid_base.specs.declared.fault.PacketFault.{PacketFault}
 use Rattle.vid_base.specs.declared.fault.PacketFault.TheVariants.{Ended}
 use Rattle.vid_base.specs.Bits.{digits}
 use Rattle.vid_base.specs.Reading.{◌>>=◌}
+use Rattle.vid_base.proofs.DigitLemmas.{length-digits}
 use Rattle.vid_base.proofs.NumberLemmas.{take-digits}
 use Rattle.vid_geom.specs.CodedOrder.{order_of}
 use Rattle.thr_huff.specs.CodeTree.{CodeTree, Token as Leaf}
@@ -25,8 +27,28 @@ use Rattle.thr_token.specs.declared.writing.Part.TheVariants.{Dc, Ac}
 use Rattle.thr_token.specs.Tokens.{further_bits, meaning_of}
 use Rattle.thr_token.specs.Coefficients.{Progress, Source, at_place, coefficients, numbers_in, places, results_of, token_in, tree_of, untouched_blocks}
 use Rattle.thr_token.specs.Tokenised.{IsToken, Tells, is_for, token_from, told}
-use Rattle.thr_token.specs.WrittenTokens.{IsHeld, code_for, codes_in, in_part, numbers_at, numbers_code, numbers_of, part_code, token_code, tokens_code}
+use Rattle.thr_token.specs.WrittenTokens.{IsHeld, code_for, codes_in, in_part, numbers_at, numbers_code, numbers_of, part_code, token_code, tokens_code, tokens_in}
 use Rattle.thr_token.proofs.SourceLemmas.{Follows, at_place_follows, ok_same, places_follow, went_well}
+
+-- so many digits were added
+pub longer_by : (old new : List Bool) (n value : ℕ) → new ≡ old ++ digits n value → length new ≡ length old + n
+longer_by old new n value e = ap length e ∙ length-append old (digits n value) ∙ ap (λ k. length old + k) (length-digits n value)
+
+-- each token belongs to one of the parts
+pub parts_are_all : (tokens : List Token) → tokens_in Dc tokens + tokens_in Ac tokens ≡ length tokens
+parts_are_all tokens =
+    let dcs : Token → Bool = λ token. in_part Dc token.place in
+    let acs : Token → Bool = λ token. in_part Ac token.place in
+    rw (← length-filter dcs tokens, ← length-filter acs tokens) (both tokens)
+  where
+    both : (tokens : List Token) → length (filter (λ token. in_part Dc token.place) tokens) + length (filter (λ token. in_part Ac token.place) tokens) ≡ length tokens
+    both [] = refl
+    both (t ∷ tokens) = go (eqb t.place 0) (both tokens)
+      where
+        go : (first : Bool) → length (filter (λ token. in_part Dc token.place) tokens) + length (filter (λ token. in_part Ac token.place) tokens) ≡ length tokens
+            → length (cond first (t ∷ filter (λ token. in_part Dc token.place) tokens) (filter (λ token. in_part Dc token.place) tokens)) + length (cond (not first) (t ∷ filter (λ token. in_part Ac token.place) tokens) (filter (λ token. in_part Ac token.place) tokens)) ≡ suc (length tokens)
+        go true h = omega arith
+        go false h = omega arith
 
 -- the part that is not this one
 abbrev pub other : Part → Part

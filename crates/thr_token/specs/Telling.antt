@@ -36,6 +36,11 @@ Told whole rest tokens None = (behind : List Token) → whole (tokens ++ behind)
 Told whole rest tokens (Some run) =
     (more : ℕ) (t : Token) (behind : List Token) → Says run.place run.luma (EndRun (run.blocks + more)) t → whole (tokens ++ t ∷ behind) ≡ rest more behind
 
+-- how many tokens there are, with that of the run that is held back
+abbrev pub said : List Token → Option Run → ℕ
+said tokens None = length tokens
+said tokens (Some run) = length tokens + 1
+
 -- reading goes on behind a token with this meaning
 abbrev pub Takes : ℕ → Bool → Meaning → (ℕ → List Token → Answer) → (ℕ → List Token → Answer) → Type 0
 Takes place luma meaning rest next = (t : Token) (behind : List Token) → Says place luma meaning t → rest 0 (t ∷ behind) ≡ next 0 behind

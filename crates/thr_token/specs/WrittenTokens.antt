@@ -1,6 +1,6 @@
 -- The bits of a frame's tokens (Theora I, 7.7.3).
-use Rattle.std.specs.Prelude.{◌≡◌, ℕ, ◌==◌, not, Bool, List, [], ◌++◌, filter, flat_map, Option, unwrap_or, IsSome, Result, Ok, if◌then◌else◌}
-use Rattle.vid_base.specs.declared.fault.PacketFault.{PacketFault}
+use Rattle.std.specs.Prelude.{ℕ, ◌==◌, not, Bool, List, [], ◌++◌, filter, flat_map, Option, unwrap_or, IsSome, if◌then◌else◌}
+use Rattle.std.specs.List.{count_by}
 use Rattle.vid_base.specs.Bits.{digits}
 use Rattle.thr_huff.specs.CodeTree.{CodeTree}
 use Rattle.thr_huff.specs.Codes.{codes_at, code_of}
@@ -12,20 +12,18 @@ use Rattle.thr_token.specs.declared.writing.Part.TheVariants.{Dc, Ac}
 use Rattle.thr_token.specs.Tokens.{further_bits}
 use Rattle.thr_token.specs.Coefficients.{tree_of}
 
--- bits were only added
-abbrev pub Grows : List Bool → List Bool → Type 0
-Grows old new = (more : List Bool) × (new ≡ old ++ more)
-
--- the bits that were added are read as the value, whatever follows them, and what follows is left
-pub record ReadsBack {A : Type 0} (read : List Bool → Result (A × List Bool) PacketFault) (value : A) (old new : List Bool) : Type 0 where
-  pub more : List Bool
-  pub added : new ≡ old ++ more
-  pub reads : (rest : List Bool) → read (more ++ rest) ≡ Ok (value, rest)
-
 -- whether a place belongs to a part of the tokens: place 0 is the DC part, and the other places are the AC part
 abbrev pub in_part : Part → ℕ → Bool
 in_part Dc place = place == 0
 in_part Ac place = not (place == 0)
+
+-- the same table for all
+abbrev pub same_tables : ℕ → Tables
+same_tables number = record { luma_dc = number; chroma_dc = number; luma_ac = number; chroma_ac = number }
+
+-- how many tokens belong to it
+abbrev pub tokens_in : Part → List Token → ℕ
+tokens_in part tokens = count_by (λ token. in_part part token.place) tokens
 
 -- the tables of a part
 abbrev pub numbers_of : Tables → Part → TableNumbers

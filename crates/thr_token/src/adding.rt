@@ -1,9 +1,9 @@
 // Tokens are added to a list, with the end-of-block run that is held back (own).
-ghost use Rattle.std.specs.Prelude.{◌<◌, ℕ, List, All, IfOk, OnOk, None, Some};
+ghost use Rattle.std.specs.Prelude.{◌≡◌, ◌+◌, ◌<◌, ◌≤◌, ℕ, List, length, All, IfOk, OnOk, None, Some};
 ghost use Rattle.thr_token.specs.declared.token.Token.{Token};
 ghost use Rattle.thr_token.specs.Tokenised.{IsToken};
 ghost use Rattle.thr_token.specs.Spellings.{IsSayable};
-ghost use Rattle.thr_token.specs.Telling.{Adds, Answer, Ends, Steps, Told};
+ghost use Rattle.thr_token.specs.Telling.{Adds, Answer, Ends, Steps, Told, said};
 
 use crate::meaning::Meaning;
 use crate::run::Run;
@@ -15,7 +15,8 @@ use vid_base::NoMem;
 fn push(tokens: &mut Vec<Token>, place: u8, luma: bool, meaning: Meaning) -> Result<(), NoMem>
     requires place { place < 64 }
     requires meaning { IsSayable meaning }
-    ensures { OnOk result (Adds place luma meaning tokens.old.items tokens.new.items) }
+    ensures adds { OnOk result (Adds place luma meaning tokens.old.items tokens.new.items) }
+    ensures few { OnOk result (length tokens.new.items ≡ length tokens.old.items + 1) }
 {
     let Spelling { token, extra } = spell(meaning);
     tokens.push(Token {
@@ -32,6 +33,7 @@ pub(crate) fn close(tokens: &mut Vec<Token>, run: Option<Run>) -> Result<(), NoM
     ensures told { OnOk result ((whole : List Token → Answer) (rest : ℕ → List Token → Answer) →
         Told whole rest tokens.old.items run → Told whole rest tokens.new.items None) }
     ensures tokens { OnOk result (All IsToken tokens.old.items → All IsToken tokens.new.items) }
+    ensures few { OnOk result (length tokens.new.items ≡ said tokens.old.items run) }
 {
     match run {
         None => Ok(()),
@@ -45,6 +47,7 @@ fn end(tokens: &mut Vec<Token>, run: Option<Run>, place: u8, luma: bool) -> Resu
     ensures told { IfOk result (λ longer. (whole : List Token → Answer) (rest next : ℕ → List Token → Answer) → Ends place luma rest next →
         Told whole rest tokens.old.items run → Told whole next tokens.new.items (Some longer)) }
     ensures tokens { OnOk result (All IsToken tokens.old.items → All IsToken tokens.new.items) }
+    ensures few { OnOk result (length tokens.new.items ≤ said tokens.old.items run) }
 {
     match run {
         Some(run) if run.blocks < LONGEST_RUN => Ok(Run {
@@ -76,6 +79,7 @@ pub(crate) fn add(
     ensures told { IfOk result (λ held. (whole : List Token → Answer) (rest next : ℕ → List Token → Answer) → Steps place luma meaning rest next →
         Told whole rest tokens.old.items run → Told whole next tokens.new.items held) }
     ensures tokens { OnOk result (All IsToken tokens.old.items → All IsToken tokens.new.items) }
+    ensures few { IfOk result (λ held. said tokens.new.items held ≤ said tokens.old.items run + 1) }
 {
     match meaning {
         Meaning::EndRun(_) => Ok(Some(end(tokens, run, place, luma)?)),

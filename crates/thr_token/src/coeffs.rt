@@ -1,5 +1,5 @@
 // The coefficients of a frame (Theora I, 7.7).
-ghost use Rattle.std.specs.Prelude.{◌≡◌, ◌*◌, [], length, OnErr, OnOk};
+ghost use Rattle.std.specs.Prelude.{◌≡◌, [], length, pos, replicate, IfOk, OnErr, OnOk};
 
 use std::alloc::Global;
 use vid_base::NoMem;
@@ -34,18 +34,21 @@ impl Coeffs {
         self.counts.clear();
     }
 
-    /// Values for so many blocks, and twice as many counts, the second half for work; none after `NoMem`.
-    pub(crate) fn size(&mut self, blocks: usize) -> Result<(), NoMem>
-        ensures values { OnOk result (length self.new.values.items ≡ blocks) }
-        ensures counts { OnOk result (length self.new.counts.items ≡ 2 * blocks) }
+    /// Zeros for so many blocks, and a list of so many words; no coefficients after `NoMem`.
+    pub(crate) fn size(&mut self, blocks: usize) -> Result<Vec<u32>, NoMem>
+        ensures values { OnOk result (self.new.values.items ≡ replicate blocks (replicate 64 (pos 0))) }
+        ensures counts { OnOk result (length self.new.counts.items ≡ blocks) }
+        ensures list { IfOk result (λ list. length list.items ≡ blocks) }
         ensures emptied { OnErr result ((self.new.values.items ≡ []) × (self.new.counts.items ≡ [])) }
     {
         self.clear();
+        let mut list = Vec::new(*self.values.allocator());
+        list.resize(blocks, 0)?;
         self.values.resize(blocks, [0; 64])?;
-        if self.counts.resize(2 * blocks, 0).is_err() {
+        if self.counts.resize(blocks, 0).is_err() {
             self.clear();
             return Err(NoMem);
         }
-        Ok(())
+        Ok(list)
     }
 }

@@ -3,18 +3,22 @@
 
 mod adding;
 mod coeffs;
+mod laws;
 mod meaning;
 mod places;
 mod reading;
 mod run;
+mod scanning;
 mod spelling;
 mod token;
 mod tokenising;
 mod trees;
+mod waiting;
 mod writing;
 
 pub use coeffs::Coeffs;
-pub use reading::{read_tokens, read_tokens_in};
+pub use laws::full_rows_hold_all_tokens;
+pub use reading::{read_tokens, read_tokens_in, read_tokens_with};
 pub use token::{Tables, Token};
 pub use tokenising::tokenise;
 pub use writing::write_tokens;

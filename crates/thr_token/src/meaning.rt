@@ -14,7 +14,7 @@ pub(crate) enum Meaning {
 }
 
 // How many further bits each token has.
-const WIDTHS: [u8; 32] = [
+static WIDTHS: [u8; 32] = [
     0, 0, 0, 2, 3, 4, 12, 3, 6, 0, 0, 0, 0, 1, 1, 1, 1, 2, 3, 4, 5, 6, 10, 1, 1, 1, 1, 1, 3, 4, 2,
     3,
 ];

@@ -1,3 +1,6 @@
+ghost use Rattle.std.specs.Prelude.{◌≡◌, length};
+ghost use Rattle.vid_geom.specs.CodedOrder.{order_of};
+
 use crate::*;
 use std::alloc::Global;
 use std::process::Abort;
@@ -60,64 +63,123 @@ fn left(r: &mut BitReader) -> usize {
     count
 }
 
-// The coefficients of a macro block in 4:2:0, whose six blocks are coded but for those from one on, and how many bits are
-// then left; or the fault. Both calls have to answer alike.
+/// What a call read, and how many bits it left.
+#[derive(Drop)]
+struct Outcome {
+    coeffs: Coeffs,
+    left: usize,
+}
+
+// By the call over lists.
+fn by_lists(
+    alloc: Global,
+    forest: &Forest,
+    geom: &Geom,
+    flags: &[bool],
+    bytes: &[u8],
+) -> Result<Result<Outcome, PacketFault>, NoMem>
+    requires { length flags.now ≡ length (order_of geom.now) }
+{
+    let mut r = BitReader::new(bytes);
+    let mut coeffs = Coeffs::new(alloc);
+    match read_tokens(&mut r, forest, geom, flags, &mut coeffs) {
+        Ok(()) => Ok(Ok(Outcome {
+            coeffs,
+            left: left(&mut r),
+        })),
+        Err(Refusal::Bad(fault)) => Ok(Err(fault)),
+        Err(Refusal::NoMem) => Err(NoMem),
+    }
+}
+
+// By the call that lends a byte a block.
+fn by_bytes(
+    alloc: Global,
+    forest: &Forest,
+    geom: &Geom,
+    flags: &[bool],
+    bytes: &[u8],
+) -> Result<Result<Outcome, PacketFault>, NoMem>
+    requires { length flags.now ≡ length (order_of geom.now) }
+{
+    let mut coeffs = Coeffs::new(alloc);
+    coeffs.values.resize(flags.len(), [7; 64])?;
+    coeffs.counts.resize(flags.len(), 7)?;
+    let mut work = Vec::new(alloc);
+    work.resize(flags.len(), 7)?;
+    let mut r = BitReader::new(bytes);
+    let values = &mut coeffs.values;
+    let counts = &mut coeffs.counts;
+    if let Err(fault) = read_tokens_in(&mut r, forest, geom, flags, values, counts, &mut work) {
+        return Ok(Err(fault));
+    }
+    Ok(Ok(Outcome {
+        coeffs,
+        left: left(&mut r),
+    }))
+}
+
+// By the call that lends a word a block.
+fn by_words(
+    alloc: Global,
+    forest: &Forest,
+    geom: &Geom,
+    flags: &[bool],
+    bytes: &[u8],
+) -> Result<Result<Outcome, PacketFault>, NoMem>
+    requires { length flags.now ≡ length (order_of geom.now) }
+{
+    let mut coeffs = Coeffs::new(alloc);
+    coeffs.values.resize(flags.len(), [0; 64])?;
+    coeffs.counts.resize(flags.len(), 7)?;
+    let mut list = Vec::new(alloc);
+    list.resize(flags.len(), 7)?;
+    let mut r = BitReader::new(bytes);
+    let values = &mut coeffs.values;
+    let counts = &mut coeffs.counts;
+    if let Err(fault) = read_tokens_with(&mut r, forest, geom, flags, values, counts, &mut list) {
+        return Ok(Err(fault));
+    }
+    Ok(Ok(Outcome {
+        coeffs,
+        left: left(&mut r),
+    }))
+}
+
+// Whether two calls answered alike.
+fn agree(a: &Result<Outcome, PacketFault>, b: &Result<Outcome, PacketFault>) -> bool {
+    match (a, b) {
+        (Ok(a), Ok(b)) => {
+            a.left == b.left
+                && a.coeffs.values.as_slice() == b.coeffs.values.as_slice()
+                && a.coeffs.counts.as_slice() == b.coeffs.counts.as_slice()
+        }
+        (Err(a), Err(b)) => *a == *b,
+        _ => false,
+    }
+}
+
+// The coefficients of a macro block in 4:2:0, whose six blocks are coded but for those from one on, or the fault. The three
+// calls have to answer alike.
 fn read(
     rt: &impl Abort,
     alloc: Global,
     coded: usize,
-    r: &mut BitReader,
-    again: &mut BitReader,
-) -> Result<Result<(Coeffs, usize), PacketFault>, Fail> {
+    bytes: &[u8],
+) -> Result<Result<Outcome, PacketFault>, Fail> {
     let forest = forest(alloc)?;
     let shape = Shape::new(1, 1, 0).expect(rt, "no shape");
     let geom = Geom::new(alloc, shape).expect(rt, "no memory");
-    let blocks = geom.blocks() as usize;
-    let mut flags = vec![in alloc; true; blocks]?;
+    let mut flags = Vec::new(alloc);
+    flags.resize(geom.blocks() as usize, true)?;
     for b in coded..flags.len() {
         flags[b] = false;
     }
-    let mut coeffs = Coeffs::new(alloc);
-    let answer = read_tokens(r, &forest, &geom, &flags, &mut coeffs);
-    let mut values = vec![in alloc; [7i16; 64]; blocks]?;
-    let mut counts = vec![in alloc; 7u8; blocks]?;
-    let mut work = vec![in alloc; 7u8; blocks]?;
-    if let Err(fault) = read_tokens_in(
-        again,
-        &forest,
-        &geom,
-        &flags,
-        &mut values,
-        &mut counts,
-        &mut work,
-    ) {
-        assert_eq!(rt; answer, Err(Refusal::Bad(fault)));
-        assert!(rt; coeffs.values.is_empty());
-        assert!(rt; coeffs.counts.is_empty());
-        return Ok(Err(fault));
-    }
-    assert_eq!(rt; answer, Ok(()));
-    assert!(rt; values.as_slice() == coeffs.values.as_slice());
-    assert!(rt; counts.as_slice() == coeffs.counts.as_slice());
-    let rest = left(r);
-    assert_eq!(rt; left(again), rest);
-    Ok(Ok((coeffs, rest)))
-}
-
-// The same of these bytes.
-fn read_bytes(
-    rt: &impl Abort,
-    alloc: Global,
-    coded: usize,
-    bytes: &[u8],
-) -> Result<Result<(Coeffs, usize), PacketFault>, Fail> {
-    read(
-        rt,
-        alloc,
-        coded,
-        &mut BitReader::new(bytes),
-        &mut BitReader::new(bytes),
-    )
+    let outcome = by_lists(alloc, &forest, &geom, &flags, bytes)?;
+    let of_bytes = by_bytes(alloc, &forest, &geom, &flags, bytes)?;
+    let of_words = by_words(alloc, &forest, &geom, &flags, bytes)?;
+    assert!(rt; agree(&outcome, &of_bytes) && agree(&outcome, &of_words));
+    Ok(outcome)
 }
 
 // Whether the values are these and all others 0.
@@ -134,40 +196,6 @@ fn holds(coeffs: &Coeffs, values: &[Value]) -> bool {
         }
     }
     true
-}
-
-/// Packets whose tokens begin at bit 12, with the values, the count of the first block, and the bits left.
-const WORKED: [(&[u8], &[Value], u8, usize); 2] = [
-    (&[0x1e, 0x00, 0x01, 0xc0, 0x00], &[], 0, 5),
-    (&[0x3f, 0x00, 0x04, 0x8d, 0x00, 0x00], &[(0, 0, 1)], 1, 3),
-];
-
-// The coefficients of a packet whose tokens begin at bit 12.
-fn read_packet(
-    rt: &impl Abort,
-    alloc: Global,
-    bytes: &[u8],
-) -> Result<Result<(Coeffs, usize), PacketFault>, Fail> {
-    let mut r = BitReader::new(bytes);
-    let mut again = BitReader::new(bytes);
-    r.take(12)?;
-    again.take(12)?;
-    read(rt, alloc, 6, &mut r, &mut again)
-}
-
-#[test]
-fn worked_packets_have_these_coefficients_and_end_where_they_are_cut(
-    rt: HostRuntime,
-) -> Result<(), Fail> {
-    for (bytes, values, count, rest) in WORKED {
-        let (coeffs, left) = read_packet(&rt, rt.alloc(), bytes)?.expect(&rt, "a fault");
-        assert!(rt; holds(&coeffs, values));
-        assert!(rt; coeffs.counts.as_slice() == [count, 0, 0, 0, 0, 0].as_slice());
-        assert_eq!(rt; left, rest);
-        let cut = read_packet(&rt, rt.alloc(), &bytes[..bytes.len() - 1])?;
-        assert!(rt; cut.err() == Some(PacketFault::Ended));
-    }
-    Ok(())
 }
 
 /// A token, its further bits, and how many they are.
@@ -187,52 +215,31 @@ fn alone(alloc: Global, tokens: &[Token]) -> Result<Vec<u8>, NoMem> {
     bytes_of(alloc, &fields)
 }
 
-/// Tokens with the zeros and the value that they say.
-const VALUES: [(Token, u8, i16); 22] = [
-    ((9, 0, 0), 0, 1),
-    ((10, 0, 0), 0, -1),
-    ((11, 0, 0), 0, 2),
-    ((12, 0, 0), 0, -2),
-    ((13, 0, 1), 0, 3),
-    ((14, 1, 1), 0, -4),
-    ((15, 0, 1), 0, 5),
-    ((16, 1, 1), 0, -6),
-    ((17, 1, 2), 0, 8),
-    ((18, 4, 3), 0, -9),
-    ((19, 7, 4), 0, 20),
-    ((20, 31, 5), 0, -36),
-    ((21, 0, 6), 0, 37),
-    ((22, 511, 10), 0, 580),
-    ((22, 1_023, 10), 0, -580),
-    ((23, 1, 1), 1, -1),
-    ((27, 0, 1), 5, 1),
-    ((28, 5, 3), 7, -1),
-    ((29, 7, 4), 17, 1),
-    ((30, 1, 2), 1, 3),
-    ((31, 1, 3), 3, 2),
-    ((31, 6, 3), 2, -3),
-];
-
-#[test]
-fn a_token_of_a_value_stands_behind_its_zeros(rt: HostRuntime) -> Result<(), Fail> {
-    for (token, zeros, value) in VALUES {
-        let bytes = alone(rt.alloc(), &[token, (0, 0, 0)])?;
-        let (coeffs, left) = read_bytes(&rt, rt.alloc(), 1, &bytes)?.expect(&rt, "a fault");
-        assert!(rt;
-            holds(&coeffs, &[(0, usize::from(zeros), value)]),
-            "{zeros} zeros and {value}"
-        );
-        assert!(rt;
-            coeffs.counts.first() == Some(&zeros.saturating_add(1)),
-            "{zeros} zeros and {value}"
-        );
-        assert!(rt; left < 8, "{zeros} zeros and {value}");
-    }
-    Ok(())
-}
-
-/// Tokens of one block that leave it at this count, with its last value that is not 0.
-const ENDS: [(&[Token], &[Value], u8); 10] = [
+/// Tokens of one block, its values that are not 0, and its count.
+const SAID: [(&[Token], &[Value], u8); 32] = [
+    (&[(9, 0, 0), (0, 0, 0)], &[(0, 0, 1)], 1),
+    (&[(10, 0, 0), (0, 0, 0)], &[(0, 0, -1)], 1),
+    (&[(11, 0, 0), (0, 0, 0)], &[(0, 0, 2)], 1),
+    (&[(12, 0, 0), (0, 0, 0)], &[(0, 0, -2)], 1),
+    (&[(13, 0, 1), (0, 0, 0)], &[(0, 0, 3)], 1),
+    (&[(14, 1, 1), (0, 0, 0)], &[(0, 0, -4)], 1),
+    (&[(15, 0, 1), (0, 0, 0)], &[(0, 0, 5)], 1),
+    (&[(16, 1, 1), (0, 0, 0)], &[(0, 0, -6)], 1),
+    (&[(17, 1, 2), (0, 0, 0)], &[(0, 0, 8)], 1),
+    (&[(18, 4, 3), (0, 0, 0)], &[(0, 0, -9)], 1),
+    (&[(19, 7, 4), (0, 0, 0)], &[(0, 0, 20)], 1),
+    (&[(20, 31, 5), (0, 0, 0)], &[(0, 0, -36)], 1),
+    (&[(21, 0, 6), (0, 0, 0)], &[(0, 0, 37)], 1),
+    (&[(22, 511, 10), (0, 0, 0)], &[(0, 0, 580)], 1),
+    (&[(22, 1_023, 10), (0, 0, 0)], &[(0, 0, -580)], 1),
+    (&[(23, 1, 1), (0, 0, 0)], &[(0, 1, -1)], 2),
+    (&[(27, 0, 1), (0, 0, 0)], &[(0, 5, 1)], 6),
+    (&[(28, 5, 3), (0, 0, 0)], &[(0, 7, -1)], 8),
+    (&[(29, 7, 4), (0, 0, 0)], &[(0, 17, 1)], 18),
+    (&[(30, 1, 2), (0, 0, 0)], &[(0, 1, 3)], 2),
+    (&[(31, 1, 3), (0, 0, 0)], &[(0, 3, 2)], 4),
+    (&[(31, 6, 3), (0, 0, 0)], &[(0, 2, -3)], 3),
+    // Ends, and zeros that reach the last place.
     (&[(0, 0, 0)], &[], 0),
     (&[(5, 15, 4)], &[], 0),
     (&[(6, 0, 12)], &[], 0),
@@ -257,26 +264,34 @@ const FAULTS: [(&[Token], PacketFault); 7] = [
 ];
 
 #[test]
-fn the_count_is_where_the_last_token_stood_and_zeros_may_reach_the_end(
-    rt: HostRuntime,
-) -> Result<(), Fail> {
-    for (tokens, values, count) in ENDS {
+fn tokens_of_one_block_have_these_values_and_faults(rt: HostRuntime) -> Result<(), Fail> {
+    for (tokens, values, count) in SAID {
         let bytes = alone(rt.alloc(), tokens)?;
-        let (coeffs, left) = read_bytes(&rt, rt.alloc(), 1, &bytes)?.expect(&rt, "a fault");
+        let Outcome { coeffs, left } = read(&rt, rt.alloc(), 1, &bytes)?.expect(&rt, "a fault");
         assert!(rt; holds(&coeffs, values), "count {count}");
         assert!(rt; coeffs.counts.as_slice() == [count, 0, 0, 0, 0, 0].as_slice());
         assert!(rt; left < 8, "count {count}");
     }
     for (tokens, fault) in FAULTS {
         let bytes = alone(rt.alloc(), tokens)?;
-        let answer = read_bytes(&rt, rt.alloc(), 1, &bytes)?;
+        let answer = read(&rt, rt.alloc(), 1, &bytes)?;
         assert!(rt; answer.err() == Some(fault), "{} tokens", tokens.len());
     }
     Ok(())
 }
 
 /// Fields of the tokens of a frame, how many of its blocks are coded, the values that are not 0, and the counts.
-const FRAMES: [(&[Field], usize, &[Value], [u8; 6]); 5] = [
+const FRAMES: [(&[Field], usize, &[Value], [u8; 6]); 8] = [
+    // One run of all blocks at place 0, and one value before such a run at place 1.
+    (&[(0, 8), (3, 5), (2, 2), (0, 8)], 6, &[], [0; 6]),
+    (
+        &[(0, 8), (9, 5), (3, 5), (1, 2), (0, 8), (0, 5)],
+        6,
+        &[(0, 0, 1)],
+        [1, 0, 0, 0, 0, 0],
+    ),
+    // No block is coded, and the tables before place 1 are read.
+    (&[(0, 8), (0, 8)], 0, &[], [0; 6]),
     // A run across two places, and a run of all that are left.
     (
         &[
@@ -383,7 +398,7 @@ fn runs_go_on_across_blocks_and_places_and_trees_go_by_plane_and_group(
 ) -> Result<(), Fail> {
     for (fields, coded, values, counts) in FRAMES {
         let bytes = bytes_of(rt.alloc(), fields)?;
-        let (coeffs, left) = read_bytes(&rt, rt.alloc(), coded, &bytes)?.expect(&rt, "a fault");
+        let Outcome { coeffs, left } = read(&rt, rt.alloc(), coded, &bytes)?.expect(&rt, "a fault");
         assert!(rt; holds(&coeffs, values), "{} fields", fields.len());
         assert!(rt;
             coeffs.counts.as_slice() == counts.as_slice(),
@@ -391,6 +406,12 @@ fn runs_go_on_across_blocks_and_places_and_trees_go_by_plane_and_group(
             fields.len()
         );
         assert!(rt; left < 8, "{} fields", fields.len());
+        let cut = read(&rt, rt.alloc(), coded, &bytes[..bytes.len() / 2])?;
+        assert!(rt;
+            cut.err() == Some(PacketFault::Ended),
+            "{} fields",
+            fields.len()
+        );
     }
     Ok(())
 }

@@ -1,12 +1,12 @@
 // The tokens of a frame's coefficients (Theora I, 7.7.3).
-ghost use Rattle.std.specs.Prelude.{◌≡◌, ◌≢◌, ◌+◌, ◌<◌, ◌≤◌, ℕ, pos, List, All, IfOk, OnOk, MatchOption, None, length, map, get_or, unsigned_abs};
+ghost use Rattle.std.specs.Prelude.{◌≡◌, ◌≢◌, ◌+◌, ◌*◌, ◌<◌, ◌≤◌, ℕ, pos, List, All, IfOk, OnOk, MatchOption, None, length, map, get_or, unsigned_abs};
 ghost use Rattle.vid_geom.specs.CodedOrder.{order_of};
 ghost use Rattle.thr_token.specs.declared.token.Token.{Token};
 ghost use Rattle.thr_token.specs.Coefficients.{first_place};
 ghost use Rattle.thr_token.specs.Standing.{lumas_of};
 ghost use Rattle.thr_token.specs.Spellings.{IsSayable};
 ghost use Rattle.thr_token.specs.Tokenised.{AreBlank, IsToken, Tells};
-ghost use Rattle.thr_token.specs.Telling.{Answer, AreZeros, IsTrueOf, Telling, from_place, place_behind};
+ghost use Rattle.thr_token.specs.Telling.{Answer, AreZeros, IsTrueOf, Telling, from_place, place_behind, said};
 
 use crate::Coeffs;
 use crate::adding::{add, close};
@@ -84,6 +84,7 @@ fn at_place(
     ensures told { IfOk result (λ run. (whole : List Token → Answer) →
         Telling whole (from_place place) (lumas_of geom.now) values.now work.old tokens.old.items held →
         Telling whole (from_place (place + 1)) (lumas_of geom.now) values.now work.new tokens.new.items run) }
+    ensures few { IfOk result (λ run. said tokens.new.items run ≤ said tokens.old.items held + length (order_of geom.now)) }
     ensures low { OnOk result (All (λ p. place < p) work.new) }
     ensures tokens { OnOk result (All IsToken tokens.old.items → All IsToken tokens.new.items) }
 {
@@ -112,6 +113,7 @@ fn all_places(
     ensures told { IfOk result (λ run. (whole : List Token → Answer) →
         Telling whole (from_place 0) (lumas_of geom.now) values.now work.old tokens.old.items None →
         Telling whole (from_place 64) (lumas_of geom.now) values.now work.new tokens.new.items run) }
+    ensures few { IfOk result (λ run. said tokens.new.items run ≤ length tokens.old.items + 64 * length (order_of geom.now)) }
     ensures low { OnOk result (All (λ p. 64 ≤ p) work.new) }
     ensures tokens { OnOk result (All IsToken tokens.old.items → All IsToken tokens.new.items) }
 {
@@ -149,6 +151,7 @@ pub fn tokenise(
     requires blank { AreBlank flags.now coeffs.now.values.items }
     ensures tells { IfOk result (λ tokens. (counts : List ℕ) × Tells geom.now flags.now (coeffs.now.values.items, counts) tokens.items) }
     ensures tokens { IfOk result (λ tokens. All IsToken tokens.items) }
+    ensures few { IfOk result (λ tokens. length tokens.items ≤ 64 * length (order_of geom.now)) }
 {
     let mut work = first_places(alloc, flags)?;
     let mut tokens = Vec::new(alloc);

@@ -1,8 +1,9 @@
 // By which trees the tokens of a frame are read (Theora I, 7.7.3).
-ghost use Rattle.std.specs.Prelude.{◌≡◌, ◌<◌, length, map, get_or, false, IfOk};
-ghost use Rattle.vid_base.specs.Reading.{Gives};
-ghost use Rattle.vid_geom.specs.CodedOrder.{order_of};
-ghost use Rattle.thr_token.specs.Coefficients.{group_of, is_luma, numbers_in, token_in, tree_of};
+ghost use Rattle.std.specs.Prelude.{◌≡◌, ◌<◌, false, get_or, length, true, IfOk};
+ghost use Rattle.vid_base.specs.Reading.{Gives, SameEnd};
+ghost use Rattle.vid_geom.specs.CodedOrder.{order_of, plane_blocks};
+ghost use Rattle.thr_token.specs.Coefficients.{group_of, numbers_in, token_in, tree_of};
+ghost use Rattle.thr_token.specs.Standing.{lumas_of};
 
 use crate::meaning::{Meaning, further_bits, meaning_of};
 use thr_huff::Forest;
@@ -22,7 +23,23 @@ pub(crate) struct Trees<'a> {
     pub(crate) forest: &'a Forest,
     pub(crate) geom: &'a Geom,
     pub(crate) numbers: TableNumbers,
+    /// How many blocks are of luma: they stand first in coded order.
+    pub(crate) lumas: u32,
     ghost small: { (numbers.luma < 16) × (numbers.chroma < 16) },
+    ghost lumas_are: { lumas ≡ plane_blocks geom.now 0 },
+}
+
+/// Those of one place.
+#[derive(Clone, Copy)]
+pub(crate) struct PlaceTrees<'a> {
+    pub(crate) all: Trees<'a>,
+    pub(crate) place: u8,
+    luma: u8,
+    chroma: u8,
+    ghost place_is: { place < 64 },
+    ghost luma_is: { luma ≡ tree_of all.numbers place true },
+    ghost chroma_is: { chroma ≡ tree_of all.numbers place false },
+    ghost within: { (luma < 80) × (chroma < 80) },
 }
 
 // The group of a place.
@@ -44,6 +61,7 @@ impl TableNumbers {
     #[tactic(auto, unfolding(crate::specs::Coefficients::numbers_in))]
     pub(crate) fn read(r: &mut BitReader) -> Result<TableNumbers, PacketFault>
         ensures value { Gives (λ numbers. numbers) result r.new.left (numbers_in r.old.left) }
+        ensures end { SameEnd r.old r.new }
         ensures small { IfOk result (λ numbers. (numbers.luma < 16) × (numbers.chroma < 16)) }
     {
         let luma = r.take(4)? as u8;
@@ -63,14 +81,57 @@ impl TableNumbers {
 }
 
 impl<'a> Trees<'a> {
-    /// The meaning of the next token, that of a block at a place.
-    #[tactic(auto, using(crate::proofs::TreeLemmas::luma_at), unfolding(crate::specs::Coefficients::token_in))]
-    pub(crate) fn read(&self, r: &mut BitReader, place: u8, b: u32) -> Result<Meaning, PacketFault>
-        requires { b < length (order_of self.now.geom.now) }
-        ensures { Gives (λ meaning. meaning) result r.new.left (token_in self.now.forest.now self.now.numbers place (get_or (map is_luma (order_of self.now.geom.now)) b false) r.old.left) }
+    /// Reads which trees they are.
+    pub(crate) fn read(
+        r: &mut BitReader,
+        forest: &'a Forest,
+        geom: &'a Geom,
+    ) -> Result<Trees<'a>, PacketFault>
+        ensures value { Gives (λ trees. trees.numbers) result r.new.left (numbers_in r.old.left) }
+        ensures end { SameEnd r.old r.new }
+        ensures trees { IfOk result (λ trees. (trees.forest.now ≡ forest.now) × (trees.geom.now ≡ geom.now)) }
     {
-        let luma = self.geom.at(b).pli == 0;
-        let token = self.forest.token(self.numbers.tree_of(place, luma), r)?;
+        let numbers = TableNumbers::read(r)?;
+        Ok(Trees {
+            forest,
+            geom,
+            numbers,
+            lumas: 4 * geom.macro_blocks(),
+        })
+    }
+
+    /// The trees of a place.
+    pub(crate) fn at(&self, place: u8) -> PlaceTrees<'a>
+        requires { place < 64 }
+        ensures all { result.all ≡ self.now }
+        ensures place { result.place ≡ place }
+    {
+        PlaceTrees {
+            all: *self,
+            place,
+            luma: self.numbers.tree_of(place, true),
+            chroma: self.numbers.tree_of(place, false),
+        }
+    }
+
+    /// Whether a block is one of luma.
+    pub(crate) fn is_luma(&self, b: u32) -> bool
+        requires { b < length (order_of self.now.geom.now) }
+        ensures { result ≡ get_or (lumas_of self.now.geom.now) b false }
+    {
+        b < self.lumas
+    }
+}
+
+impl PlaceTrees<'_> {
+    /// The meaning of the next token, that of a block at the place.
+    #[tactic(auto, unfolding(crate::specs::Coefficients::token_in))]
+    pub(crate) fn read(&self, r: &mut BitReader, luma: bool) -> Result<Meaning, PacketFault>
+        ensures value { Gives (λ meaning. meaning) result r.new.left (token_in self.now.all.forest.now self.now.all.numbers self.now.place luma r.old.left) }
+        ensures end { SameEnd r.old r.new }
+    {
+        let tree = if luma { self.luma } else { self.chroma };
+        let token = self.all.forest.token(tree, r)?;
         let extra = r.take(further_bits(token))?;
         Ok(meaning_of(token, extra))
     }

@@ -1,9 +1,10 @@
 // The tokens of a frame are written (Theora I, 7.7.3).
-ghost use Rattle.std.specs.Prelude.{◌≡◌, ◌<◌, ◌++◌, ℕ, ℤ, Bool, List, All, IsSome, OnErr, OnOk};
+ghost use Rattle.std.specs.Prelude.{◌≡◌, ◌+◌, ◌*◌, ◌<◌, ◌≤◌, ◌++◌, ℕ, length, ℤ, Bool, List, All, IsSome, OnErr, OnOk};
 ghost use Rattle.vid_base.specs.declared.shape.Shape.{Shape};
+ghost use Rattle.vid_base.specs.Writing.{Grows, ReadsBack};
 ghost use Rattle.thr_token.specs.Coefficients.{coefficients};
 ghost use Rattle.thr_token.specs.Tokenised.{IsToken, Tells};
-ghost use Rattle.thr_token.specs.WrittenTokens.{Grows, IsHeld, ReadsBack, code_for, codes_in, in_part, numbers_code, numbers_of, part_code, token_code, tokens_code};
+ghost use Rattle.thr_token.specs.WrittenTokens.{IsHeld, code_for, codes_in, in_part, numbers_code, numbers_of, part_code, token_code, tokens_code, tokens_in};
 
 use crate::meaning::further_bits;
 use crate::token::{Tables, Token};
@@ -56,6 +57,7 @@ fn write_numbers(w: &mut BitWriter, numbers: TableNumbers) -> Result<(), NoMem>
     requires luma { numbers.luma < 16 }
     requires chroma { numbers.chroma < 16 }
     ensures written { OnOk result (w.new ≡ w.old ++ numbers_code numbers) }
+    ensures few { OnOk result (length w.new ≡ length w.old + 8) }
     ensures memory { OnErr result (Grows w.old w.new) }
 {
     w.put(u32::from(numbers.luma), 4)?;
@@ -75,6 +77,7 @@ fn write_token(
     requires token { IsToken token }
     requires held { IsSome (code_for forest.now numbers token) }
     ensures written { OnOk result (w.new ≡ w.old ++ token_code forest.now numbers token) }
+    ensures few { OnOk result (length w.new ≤ length w.old + 44) }
     ensures memory { OnErr result (Grows w.old w.new) }
 {
     match forest.code(numbers.tree_of(token.place, token.luma), token.token) {
@@ -99,6 +102,7 @@ fn write_codes(
     requires tokens { All IsToken tokens.now }
     requires held { All (IsHeld forest.now tables.now) tokens.now }
     ensures written { OnOk result (w.new ≡ w.old ++ codes_in forest.now tables.now part tokens.now) }
+    ensures few { OnOk result (length w.new ≤ length w.old + 44 * tokens_in part tokens.now) }
     ensures memory { OnErr result (Grows w.old w.new) }
 {
     let numbers = tables.of(part);
@@ -124,6 +128,7 @@ fn write_part(
     requires tokens { All IsToken tokens.now }
     requires held { All (IsHeld forest.now tables.now) tokens.now }
     ensures written { OnOk result (w.new ≡ w.old ++ part_code forest.now tables.now part tokens.now) }
+    ensures few { OnOk result (length w.new ≤ length w.old + 8 + 44 * tokens_in part tokens.now) }
     ensures memory { OnErr result (Grows w.old w.new) }
 {
     write_numbers(w, tables.of(part))?;
@@ -146,6 +151,7 @@ pub fn write_tokens(
     requires tokens { All IsToken tokens.now }
     requires held { All (IsHeld forest.now tables.now) tokens.now }
     ensures written { OnOk result (w.new ≡ w.old ++ tokens_code forest.now tables.now tokens.now) }
+    ensures few { OnOk result (length w.new ≤ length w.old + 16 + 44 * length tokens.now) }
     ensures reads_back { OnOk result ((s : Shape) (flags : List Bool) (results : List (List ℤ) × List ℕ) →
         Tells s flags results tokens.now → ReadsBack (coefficients forest.now s flags) results w.old w.new) }
     ensures memory { OnErr result (Grows w.old w.new) }

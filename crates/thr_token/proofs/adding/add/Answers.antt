@@ -1,4 +1,4 @@
-use Rattle.std.proofs.Common.{subst}
+use Rattle.std.proofs.Common.{arith, subst}
 use Rattle.thr_token.specs.declared.meaning.Meaning.{Meaning}
 use Rattle.thr_token.specs.Telling.{Steps}
 use Rattle.thr_token.proofs.AddingLemmas.{each_more, takes, told_more}
@@ -11,7 +11,8 @@ returns-in_ok-end-in-EndRun-clause-told c = λ whole rest next steps.
 pub returns-in_ok-push-in_default : goal.returns-in_ok-push-in_default
 returns-in_ok-push-in_default c = record {
   told = λ whole rest next steps held.
-      told_more c.args.place c.args.luma c.args.meaning c.close.new.tokens.items c.push.new.tokens.items whole rest next c.in_ok-push-in_default.ensures
+      told_more c.args.place c.args.luma c.args.meaning c.close.new.tokens.items c.push.new.tokens.items whole rest next c.in_ok-push-in_default.ensures.adds
       (takes c.args.place c.args.luma c.args.meaning rest next c.in_default.not-EndRun steps) (c.in_ok-close-in_default.ensures.told whole rest held);
-  tokens = λ each. each_more c.args.place c.args.luma c.args.meaning c.close.new.tokens.items c.push.new.tokens.items c.in_ok-push-in_default.ensures (c.in_ok-close-in_default.ensures.tokens each);
+  tokens = λ each. each_more c.args.place c.args.luma c.args.meaning c.close.new.tokens.items c.push.new.tokens.items c.in_ok-push-in_default.ensures.adds (c.in_ok-close-in_default.ensures.tokens each);
+  few = omega (arith, c.in_ok-push-in_default.ensures.few, c.in_ok-close-in_default.ensures.few);
 }

@@ -21,6 +21,7 @@ order-init c = record {
   size = refl;
   low = λ i h. c.requires.low i 0 h;
   behind = λ i h. absurd (omega arith);
+  few = omega arith;
   tokens = λ each. each;
 }
 
@@ -46,6 +47,7 @@ order-preserved c =
             size = rw work (length-set c.order.work b (place_behind place meaning) ∙ c.order.invariant.size);
             low = rw work (low_set place b (place_behind place meaning) c.order.work c.order.invariant.low works far);
             behind = rw work (behind_set place b (place_behind place meaning) c.order.work c.order.invariant.behind works far);
+            few = rw (w.tokens-is, w.run-is) (omega (arith, w.in_ok-run.ensures.few, c.order.invariant.few));
             tokens = λ each. rw w.tokens-is (w.in_ok-run.ensures.tokens (c.order.invariant.tokens each));
           }
       | else-work-i w ↦
@@ -55,6 +57,7 @@ order-preserved c =
             size = rw w.work-is c.order.invariant.size;
             low = rw w.work-is c.order.invariant.low;
             behind = rw w.work-is (behind_pass place b c.order.work c.order.invariant.behind (c.order.invariant.low b works) w.if-work-i.false);
+            few = rw (w.tokens-is, w.run-is) (omega (arith, c.order.invariant.few));
             tokens = λ each. rw w.tokens-is (c.order.invariant.tokens each);
           }
     ]
@@ -67,5 +70,6 @@ returns c =
       low = λ i d h.
           let here : c.args.place < get_or c.order.work i 0 = c.order.invariant.behind i (omega (arith, c.order.invariant.size, c.requires.work, c.blocks-b-end.ensures.value, c.order-test.false)) in
           omega (arith, any_default c.order.work i d 0 h);
+      few = omega (arith, c.order.invariant.few, c.blocks-b-end.ensures.value, c.order.auto.b-end);
       tokens = λ each. c.order.invariant.tokens each;
     }

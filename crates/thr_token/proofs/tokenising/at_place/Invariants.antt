@@ -1,8 +1,8 @@
-use Rattle.std.proofs.Common.{◌≡◌, ◌<◌, ◌≤◌, ℕ, List, All, get_or, length}
+use Rattle.std.proofs.Common.{◌≡◌, ◌+◌, ◌<◌, ◌≤◌, ℕ, List, All, get_or, length}
 use Rattle.thr_token.specs.declared.token.Token.{Token}
 use Rattle.thr_token.specs.Standing.{lumas_of}
 use Rattle.thr_token.specs.Tokenised.{IsToken}
-use Rattle.thr_token.specs.Telling.{Answer, Telling, from_block, from_place}
+use Rattle.thr_token.specs.Telling.{Answer, Telling, from_block, from_place, said}
 use Rattle.thr_token.proofs.tokenising.at_place.Given as goal
 
 -- the blocks so far had their turns
@@ -12,5 +12,6 @@ invariant-order l = record {
   size : length l.work ≡ length l.fn.work;
   low : (i : ℕ) → i < length l.work → l.place ≤ get_or l.work i 0;
   behind : (i : ℕ) → i < l.b → l.place < get_or l.work i 0;
+  few : said l.tokens.items l.run ≤ said l.fn.tokens.items l.fn.held + l.b;
   tokens : All IsToken l.fn.tokens.items → All IsToken l.tokens.items;
 }

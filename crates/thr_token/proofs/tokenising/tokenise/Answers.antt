@@ -1,4 +1,4 @@
-use Rattle.std.proofs.Common.{◌≡◌, rules, map, None, List, ℤ, subst}
+use Rattle.std.proofs.Common.{◌≡◌, rules, ap, arith, length, map, None, List, ℤ, subst}
 use Rattle.std.proofs.lemmas.List.Elements.{All-nil}
 use Rattle.thr_token.specs.Coefficients.{first_place}
 use Rattle.thr_token.specs.Standing.{lumas_of, standing}
@@ -26,5 +26,6 @@ returns c =
         each = all.each;
         told = c.in_ok-close.ensures.told (whole s flags) (from_place 64 (standing (lumas_of s) c.all_places.new.work all.read all.counts)) all.told;
       });
+      few = omega (arith, c.in_ok-close.ensures.few, c.in_ok-run.ensures.few, ap length c.new-tokens.ensures.items);
       tokens = c.in_ok-close.ensures.tokens (c.in_ok-run.ensures.tokens (rw c.new-tokens.ensures.items (All-nil IsToken)));
     }
