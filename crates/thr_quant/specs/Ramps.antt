@@ -40,6 +40,19 @@ matrices_of bits = do
   count ← field 9 bits
   if nat_lt 384 (count.0 + 1) then Err Matrices else items base_matrix_of (count.0 + 1) count.1
 
+-- the number of base matrices, where it is not too great
+unfoldable pub matrices_front : List Bool → Result (ℕ × List Bool) PacketFault
+matrices_front bits = do
+  count ← field 9 bits
+  if nat_lt 384 (count.0 + 1) then Err Matrices else Ok count
+
+-- what stands before the base matrices: the scales, and the number of base matrices. No memory is taken before
+unfoldable pub ramps_front : List Bool → Result (ℕ × List Bool) PacketFault
+ramps_front bits = do
+  ac ← scales_of bits
+  dc ← scales_of ac.1
+  matrices_front dc.1
+
 -- a copy: of the pair before, or, where RPQR is 1, of the intra ranges of the same plane; RPQR is read for inter blocks alone
 unfoldable pub copy_of : Ranges → Option Ranges → List Bool → Result (Ranges × List Bool) PacketFault
 copy_of before None bits = Ok (before, bits)

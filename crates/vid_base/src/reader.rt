@@ -117,6 +117,17 @@ impl<'a> BitReader<'a> {
         }
     }
 
+    /// Another reader at the same place, to come back to.
+    pub fn copy(&self) -> BitReader<'a>
+        ensures { result ≡ self.now }
+    {
+        BitReader {
+            bytes: self.bytes,
+            at: self.at,
+            shift: self.shift,
+        }
+    }
+
     /// How many bits were taken.
     pub fn place(&self) -> u64
         requires { self.now.place < 2 ^ 64 }
