@@ -1,7 +1,7 @@
 // A tree with a table, so that a short code is taken at once (own).
 ghost use Rattle.std.specs.Prelude.{◌≡◌, ◌≤◌, ◌<◌, [], IfOk, IfSome, OnErr, option_map};
 ghost use Rattle.vid_base.specs.Bits.{digits};
-ghost use Rattle.vid_base.specs.Reading.{GivesOrNoMem, Taken};
+ghost use Rattle.vid_base.specs.Reading.{GivesOrNoMem, SameEnd, Taken};
 ghost use Rattle.thr_huff.specs.CodeTree.{code_tree};
 ghost use Rattle.thr_huff.specs.Codes.{codes_of, front_token};
 ghost use Rattle.thr_huff.specs.Trees.{IsTree, tree_at};
@@ -84,6 +84,7 @@ impl Book {
     pub(crate) fn read(alloc: Global, r: &mut BitReader) -> Result<Book, Refusal>
         ensures value { GivesOrNoMem (λ book. code_tree book.tree) result r.new.left (tree_at 33 0 r.old.left) }
         ensures tree { IfOk result (λ book. IsTree (code_tree book.tree)) }
+        ensures end { SameEnd r.old r.new }
     {
         let mut leaves = 0;
         let tree = read_tree(alloc, r, MOST_LEVELS, &mut leaves)?;
@@ -102,6 +103,7 @@ impl Book {
     pub(crate) fn token(&self, r: &mut BitReader) -> Result<u8, Ended>
         ensures value { Taken result r.new.left (front_token (codes_of (code_tree self.now.tree)) r.old.left) }
         ensures ended { OnErr result (r.new.left ≡ []) }
+        ensures end { SameEnd r.old r.new }
     {
         if let Some(window) = r.peek(WINDOW) {
             if let Some(entry) = self.entry_at(window) {

@@ -1,6 +1,6 @@
 // The 80 trees of a setup header (Theora I, 6.4.4 and 7.7.3).
 ghost use Rattle.std.specs.Prelude.{◌≡◌, ◌<◌, ◌++◌, [], ℕ, List, Bool, Some, Ok, map, IsSome, IfOk, IfSome, IfNone, OnOk, OnErr, IsTrue, ◌↔◌, ◌+◌, ◌*◌, option_map};
-ghost use Rattle.vid_base.specs.Reading.{GivesOrNoMem, Taken};
+ghost use Rattle.vid_base.specs.Reading.{GivesOrNoMem, KeptOnNoMem, SameEnd, Taken};
 ghost use Rattle.thr_huff.specs.CodeTree.{code_tree};
 ghost use Rattle.thr_huff.specs.Codes.{codes_at, front_token, code_of, code_bits};
 ghost use Rattle.thr_huff.specs.Trees.{IsForest, forest_at, forest_bits};
@@ -44,10 +44,10 @@ impl Model for Forest {
     ghost invariant = { λ f. IsForest (map (λ b. code_tree b.tree) f.books.items) };
 }
 
-/// Reads 80 trees. The first fault in reading order is `Ended`, `TreeDeep` where a tree goes deeper than 32 bits, or
-/// `TreeLeaves` where a tree has more than 32 leaves. Where the reader stands after a refusal is left open.
-pub fn read_forest(alloc: Global, r: &mut BitReader) -> Result<Forest, Refusal>
+// 80 trees, one behind the other.
+fn read_trees(alloc: Global, r: &mut BitReader) -> Result<Forest, Refusal>
     ensures value { GivesOrNoMem (λ forest. forest) result r.new.left (forest_at r.old.left) }
+    ensures end { SameEnd r.old r.new }
 {
     let mut books = Vec::with_capacity(alloc, TREES)?;
     'trees: while books.len() < TREES {
@@ -55,6 +55,25 @@ pub fn read_forest(alloc: Global, r: &mut BitReader) -> Result<Forest, Refusal>
         books.push(book)?;
     }
     Ok(Forest { books })
+}
+
+/// Reads 80 trees. The first fault in reading order is `Ended`, `TreeDeep` where a tree goes deeper than 32 bits, or
+/// `TreeLeaves` where a tree has more than 32 leaves. Where the reader stands after a fault is left open; after `NoMem` it
+/// is as it was.
+pub fn read_forest(alloc: Global, r: &mut BitReader) -> Result<Forest, Refusal>
+    ensures value { GivesOrNoMem (λ forest. forest) result r.new.left (forest_at r.old.left) }
+    ensures memory { KeptOnNoMem result r.old r.new }
+    ensures end { SameEnd r.old r.new }
+{
+    let start = r.copy();
+    match read_trees(alloc, r) {
+        Ok(forest) => Ok(forest),
+        Err(Refusal::Bad(fault)) => Err(Refusal::Bad(fault)),
+        Err(Refusal::NoMem) => {
+            *r = start;
+            Err(Refusal::NoMem)
+        }
+    }
 }
 
 /// Adds the bits of the 80 trees. After `NoMem` the bits that were there are followed by some of them.
@@ -88,6 +107,7 @@ impl Forest {
         requires { hti < 80 }
         ensures value { Taken result r.new.left (front_token (codes_at self.now hti) r.old.left) }
         ensures ended { OnErr result (r.new.left ≡ []) }
+        ensures end { SameEnd r.old r.new }
         ensures small { IfOk result (λ token. token < 32) }
     {
         let book = &self.books[usize::from(hti)];

@@ -1,6 +1,6 @@
 // One tree: reading, writing, its codes, and a walk by the bits of a packet (Theora I, 6.4.4 and 7.7.3).
 ghost use Rattle.std.specs.Prelude.{◌≡◌, ◌≤◌, ◌<◌, ◌+◌, ◌∷◌, ◌++◌, [], List, Bool, All, length, IfOk, OnOk, OnErr, option_map};
-ghost use Rattle.vid_base.specs.Reading.{GivesOrNoMem, Taken};
+ghost use Rattle.vid_base.specs.Reading.{GivesOrNoMem, SameEnd, Taken};
 ghost use Rattle.thr_huff.specs.CodeTree.{code_tree, Token, Fork};
 ghost use Rattle.thr_huff.specs.Codes.{codes_of, code_of, code_bits, front_token};
 ghost use Rattle.thr_huff.specs.Trees.{FitsLevels, tree_at, tree_bits};
@@ -53,6 +53,7 @@ pub(crate) fn read_tree(
     ensures count { IfOk result (λ tree. leaves.new ≡ leaves.old + length (codes_of (code_tree tree))) }
     ensures few { leaves.new ≤ 32 }
     ensures fits { IfOk result (λ tree. FitsLevels levels (code_tree tree)) }
+    ensures end { SameEnd r.old r.new }
 {
     if levels == 0 {
         return Err(Refusal::Bad(PacketFault::TreeDeep));
@@ -93,6 +94,7 @@ pub(crate) fn write_tree(w: &mut BitWriter, tree: &Tree) -> Result<(), NoMem>
 pub(crate) fn walk(tree: &Tree, r: &mut BitReader) -> Result<u8, Ended>
     ensures value { Taken result r.new.left (front_token (codes_of (code_tree tree.now)) r.old.left) }
     ensures ended { OnErr result (r.new.left ≡ []) }
+    ensures end { SameEnd r.old r.new }
 {
     match tree {
         Tree::Leaf(token) => Ok(*token),
