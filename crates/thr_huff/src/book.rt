@@ -7,8 +7,8 @@ ghost use Rattle.thr_huff.specs.Codes.{codes_of, front_token};
 ghost use Rattle.thr_huff.specs.Trees.{IsTree, tree_at};
 ghost use Rattle.thr_huff.specs.Tables.{IsTable, deeper, entry_of};
 
-use crate::tree::{Tree, read_tree, walk};
-use std::alloc::Global;
+use crate::tree::{Tree, copied, read_tree, walk};
+use std::alloc::{AllocError, Global};
 use vid_base::{BitReader, Ended, NoMem, Refusal};
 
 // How many bits the table looks at.
@@ -77,6 +77,16 @@ impl Book {
         'windows: for window in 0..1 << WINDOW {
             table.push(look_up(&tree, window, WINDOW))?;
         }
+        Ok(Book { tree, table })
+    }
+
+    // The same tree with the same table.
+    pub(crate) fn copied(&self) -> Result<Book, AllocError>
+        ensures { IfOk result (λ copy. code_tree copy.tree ≡ code_tree self.now.tree) }
+    {
+        let alloc = *self.table.allocator();
+        let tree = copied(alloc, &self.tree)?;
+        let table = Vec::from_slice(alloc, &self.table)?;
         Ok(Book { tree, table })
     }
 

@@ -9,7 +9,7 @@ ghost use Rattle.thr_huff.specs.Rows.{IsFullRow, full_row_of, has_all_tokens, is
 use crate::book::Book;
 use crate::code::Code;
 use crate::tree::{Tree, code_in, write_tree};
-use std::alloc::Global;
+use std::alloc::{AllocError, Global};
 use std::marker::Model;
 use vid_base::{BitReader, BitWriter, Ended, NoMem, Refusal};
 
@@ -42,6 +42,19 @@ impl Model for Forest {
     ghost view = { λ f. map (λ b. code_tree b.tree) f.books.items };
 
     ghost invariant = { λ f. IsForest (map (λ b. code_tree b.tree) f.books.items) };
+}
+
+/// A copy has the same trees, and memory of its own.
+impl Clone for Forest {
+    ghost is_clone = { λ v w. w ≡ v };
+
+    fn clone(&self) -> Result<Self, AllocError> {
+        let mut books = Vec::with_capacity(*self.books.allocator(), TREES)?;
+        'trees: for book in &self.books {
+            books.push(book.copied()?)?;
+        }
+        Ok(Forest { books })
+    }
 }
 
 // 80 trees, one behind the other.
