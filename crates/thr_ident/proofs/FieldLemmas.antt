@@ -1,7 +1,6 @@
 -- A field at its place, and the fields in front of it that a reader has taken. Reading and writing a header cite these.
-use Rattle.std.proofs.Common.{◌≡◌, ℕ, zero, suc, ◌+◌, ◌*◌, ◌≤◌, Bool, true, false, List, [], ◌∷◌, length, take, drop, Option, Some, None, Result, Ok, Err, IsOk, nat_lt, refl, ap, sym, ◌∙◌, arith, cond, rules}
+use Rattle.std.proofs.Common.{◌≡◌, ℕ, ◌+◌, ◌≤◌, Bool, true, false, List, length, take, drop, Option, Some, None, Result, Ok, Err, IsOk, nat_lt, refl, ap, sym, ◌∙◌, arith, cond, rules}
 use Rattle.std.proofs.lemmas.List.{drop-drop}
-use Rattle.std.proofs.Math.Seq.{drop-nil}
 use Rattle.vid_base.specs.Bits.{take_bits, bits_of, number}
 use Rattle.thr_ident.specs.Header.{field_at}
 use Rattle.vid_base.specs.Reading.{Taken}
@@ -24,13 +23,6 @@ taken-number n v bits rest e = go (nat_lt (length bits) n) refl e
 pub taken_there : {E : Type 0} (r : Result ℕ E) (n : ℕ) (bits left : List Bool) → n ≤ length bits → Taken r left (take_bits n bits) → IsOk r
 taken_there (Ok v) n bits left h t = search rules
 taken_there (Err e) n bits left h t = absurd (omega (arith, taken-none n bits t))
-
--- the bits behind some bytes
-pub bits_of-drop : (k : ℕ) (bytes : List ℕ) → bits_of (drop k bytes) ≡ drop (8 * k) (bits_of bytes)
-unfolding bits_of
-bits_of-drop zero bytes = refl
-bits_of-drop (suc k) [] = sym (drop-nil (8 * suc k))
-bits_of-drop (suc k) (b ∷ bytes) = let more : 8 * suc k ≡ 8 + 8 * k = omega arith in rw more (bits_of-drop k bytes ∙ drop-drop (8 * k) 8 (bits_of (b ∷ bytes)))
 
 -- behind a field that stands behind k bits
 pub behind_more : (k n j : ℕ) (bits left next : List Bool) → k + n ≡ j → left ≡ drop k bits → next ≡ drop n left → next ≡ drop j bits

@@ -1,14 +1,12 @@
 -- The bytes of a header have each field at its place. `write_ident` cites this.
-use Rattle.std.proofs.Common.{◌≡◌, ℕ, zero, suc, ◌+◌, ◌*◌, ◌/◌, ◌%◌, ◌^◌, ◌<◌, Bool, List, [], ◌∷◌, ◌++◌, length, length-append, take, drop, refl, ap, sym, ◌∙◌, arith, append_assoc}
+use Rattle.std.proofs.Common.{◌≡◌, ℕ, ◌+◌, ◌*◌, ◌^◌, ◌<◌, Bool, List, [], ◌∷◌, ◌++◌, length, length-append, take, drop, refl, ap, sym, ◌∙◌, arith, append_assoc}
 use Rattle.std.proofs.Math.Seq.{take-append_seam, drop-append_seam}
-use Rattle.std.proofs.Math.Nat.{pow-suc}
-use Rattle.std.proofs.lemmas.Nat.{pow-add}
-use Rattle.std.specs.Int.{bytes_high_first, byte_at}
+use Rattle.std.specs.Int.{bytes_high_first}
 use Rattle.vid_base.specs.Bits.{bits_of, digits, number}
-use Rattle.vid_base.proofs.DigitLemmas.{ap-two, length-digits, digits-cat, digits-mod, digits-joined, bits_of-byte, bits_of-append, length-bits_of}
+use Rattle.vid_base.proofs.DigitLemmas.{length-digits, digits-joined, bits_of-byte, bits_of-append, length-bits_of}
 use Rattle.vid_base.proofs.NumberLemmas.{number-digits}
-use Rattle.thr_ident.specs.declared.header.Header.{Header}
-use Rattle.thr_ident.specs.Header.{field_at, header_in, header_bytes, Fits}
+use Rattle.vid_base.proofs.WordLemmas.{bits_of-bytes}
+use Rattle.thr_ident.specs.Header.{Header, field_at, header_in, header_bytes, Fits}
 
 -- the field behind other bits
 field-digits : (k n v : ℕ) (bytes : List ℕ) (front rest : List Bool) → bits_of bytes ≡ front ++ (digits n v ++ rest) → length front ≡ k → v < 2 ^ n → field_at k n bytes ≡ v
@@ -17,30 +15,6 @@ field-digits k n v bytes front rest e at h =
     let behind : drop k (bits_of bytes) ≡ digits n v ++ rest = ap (λ i. drop i (bits_of bytes)) (sym at) ∙ ap (drop (length front)) e ∙ drop-append_seam front (digits n v ++ rest) in
     let all : take n (digits n v ++ rest) ≡ digits n v = ap (λ i. take i (digits n v ++ rest)) (sym (length-digits n v)) ∙ take-append_seam (digits n v) rest in
     ap (λ bits. number (take n bits)) behind ∙ ap number all ∙ number-digits n 0 v h ∙ omega arith
-
--- 256 is eight times two
-bytes_worth : (k : ℕ) → 256 ^ k ≡ 2 ^ (8 * k)
-bytes_worth zero = refl
-bytes_worth (suc k) =
-    let more : 8 * suc k ≡ 8 + 8 * k = omega arith in
-    rw (more, pow-add 2 8 (8 * k), pow-suc 256 k, bytes_worth k) (omega arith)
-
--- a byte of a number, as bits count
-byte-is : (k v : ℕ) → byte_at k v ≡ v / 2 ^ (8 * k) % 256
-byte-is zero v = let whole : v / 2 ^ 0 ≡ v = omega arith in rw whole refl
-byte-is (suc k) v = ap (λ w. v / w % 256) (bytes_worth (suc k))
-
--- the bits of a number's bytes are its digits
-bits_of-bytes : (m v : ℕ) → bits_of (bytes_high_first m v) ≡ digits (8 * m) v
-unfolding bits_of digits
-bits_of-bytes zero v = refl
-bits_of-bytes (suc m) v =
-    let more : 8 * suc m ≡ 8 + 8 * m = omega arith in
-    let first : bits_of (byte_at m v ∷ []) ≡ digits 8 (v / 2 ^ (8 * m)) = bits_of-byte (byte_at m v) ∙ ap (digits 8) (byte-is m v) ∙ digits-mod 8 8 (v / 2 ^ (8 * m)) (omega arith) in
-    bits_of-append (byte_at m v ∷ []) (bytes_high_first m v)
-    ∙ ap-two (λ a b. a ++ b) first (bits_of-bytes m v)
-    ∙ sym (digits-cat 8 (8 * m) v)
-    ∙ ap (λ n. digits n v) (sym more)
 
 -- a field of whole bytes
 field-bytes : (k m v : ℕ) (front rest : List ℕ) → length front ≡ k → v < 2 ^ (8 * m) → field_at (8 * k) (8 * m) (front ++ (bytes_high_first m v ++ rest)) ≡ v

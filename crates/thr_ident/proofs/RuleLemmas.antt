@@ -2,10 +2,10 @@
 -- Making an `Ident` of a header, and `write_ident`, cite these.
 use Rattle.std.proofs.Common.{◌≡◌, ◌≢◌, ℕ, ◌+◌, ◌*◌, ◌<◌, ◌≤◌, true, false, not, ◌&&◌, nat_eq, nat_lt, nat_le, None, Ok, List, ◌∷◌, ◌++◌, length, length-append, refl, sym, arith}
 use Rattle.std.proofs.lemmas.Bool.{and_parts, and_from, eqb-true, eqb-false, eq-eqb, ne_eqb, not-true, ltb-true, lt-ltb, leb-true, le-leb}
-use Rattle.thr_ident.specs.declared.header.Header.{Header}
-use Rattle.thr_ident.specs.Rules.{Rule, first_fault}
+use Rattle.vid_base.specs.declared.fault.PacketFault.{PacketFault}
+use Rattle.vid_base.specs.Rules.{Rule, first_fault}
 use Rattle.thr_ident.specs.Ident.{header_rules, has_sound_sizes, ident_rules, ident_of}
-use Rattle.thr_ident.specs.Header.{header_in, header_bytes, Fits}
+use Rattle.thr_ident.specs.Header.{Header, header_in, header_bytes, Fits}
 use Rattle.thr_ident.proofs.LayoutLemmas.{header_in-bytes, length-header_bytes}
 
 -- the rules of the fields as facts
@@ -25,7 +25,7 @@ pub record Keeps (h : Header) : Type 0 where
   pub reserved : h.reserved ≡ 0
 
 -- where no rule is broken, the first is kept, and none of the others is broken
-first_kept : (rule : Rule) (rules : List Rule) → first_fault (rule ∷ rules) ≡ None → (rule.0 ≡ true) × (first_fault rules ≡ None)
+first_kept : (rule : Rule PacketFault) (rules : List (Rule PacketFault)) → first_fault (rule ∷ rules) ≡ None → (rule.0 ≡ true) × (first_fault rules ≡ None)
 unfolding first_fault
 first_kept (true, fault) rules e = (refl, e)
 first_kept (false, fault) rules e = cc

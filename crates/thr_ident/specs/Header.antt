@@ -4,11 +4,32 @@ use Rattle.std.specs.Prelude.{ℕ, ◌+◌, ◌*◌, ◌^◌, ◌<◌, List, [],
 use Rattle.std.specs.Int.{bytes_high_first}
 use Rattle.std.specs.List.{concat}
 use Rattle.vid_base.specs.Bits.{bits_of, number}
-use Rattle.thr_ident.specs.declared.header.Header.{Header}
 
 -- the first bytes of an identification header: its type, and the codec's name
 abbrev pub ident_name : List ℕ
 ident_name = 128 ∷ codes "theora"
+
+-- what the fields of an identification header say
+pub record Header : Type 0 where
+  pub vmaj : ℕ
+  pub vmin : ℕ
+  pub vrev : ℕ
+  pub fmbw : ℕ
+  pub fmbh : ℕ
+  pub picw : ℕ
+  pub pich : ℕ
+  pub picx : ℕ
+  pub picy : ℕ
+  pub frn : ℕ
+  pub frd : ℕ
+  pub parn : ℕ
+  pub pard : ℕ
+  pub cs : ℕ
+  pub nombr : ℕ
+  pub qual : ℕ
+  pub shift : ℕ
+  pub pf : ℕ
+  pub reserved : ℕ
 
 -- how many bytes it has
 abbrev pub ident_length : ℕ

@@ -3,17 +3,16 @@ use Rattle.std.specs.Prelude.{ℕ, ◌+◌, ◌*◌, List, [], ◌∷◌, Result
 use Rattle.std.specs.List.{starts_with}
 use Rattle.vid_base.specs.declared.fault.PacketFault.{PacketFault}
 use Rattle.vid_base.specs.declared.fault.PacketFault.TheVariants.{Ended, NotIdent, Version, BadSize, BadRate, PixelFormat, Reserved, TooLarge}
-use Rattle.thr_ident.specs.declared.header.Header.{Header}
 use Rattle.thr_ident.specs.declared.ident.Ident.{Ident}
-use Rattle.thr_ident.specs.Header.{ident_name, ident_length, header_in}
-use Rattle.thr_ident.specs.Rules.{Rule, first_fault, unless}
+use Rattle.thr_ident.specs.Header.{Header, ident_name, ident_length, header_in}
+use Rattle.vid_base.specs.Rules.{Rule, first_fault, unless}
 
 -- no size is 0, and the picture lies inside the coded frame
 abbrev pub has_sound_sizes : Header → Bool
 has_sound_sizes h = nat_lt 0 h.fmbw && nat_lt 0 h.fmbh && nat_lt 0 h.picw && nat_lt 0 h.pich && nat_le (h.picx + h.picw) (16 * h.fmbw) && nat_le (h.picy + h.pich) (16 * h.fmbh)
 
 -- the rules of the fields; that there are at most 131,072 macro blocks is one of this project
-unfoldable pub header_rules : Header → List Rule
+unfoldable pub header_rules : Header → List (Rule PacketFault)
 header_rules h =
     (h.vmaj == 3 && h.vmin == 2, Version)
     ∷ (has_sound_sizes h, BadSize)
@@ -24,7 +23,7 @@ header_rules h =
     ∷ []
 
 -- the rules of a packet
-unfoldable pub ident_rules : List ℕ → List Rule
+unfoldable pub ident_rules : List ℕ → List (Rule PacketFault)
 ident_rules bytes =
     (starts_with nat_eq bytes ident_name, NotIdent)
     ∷ (nat_le ident_length (length bytes), Ended)

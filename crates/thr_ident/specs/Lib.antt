@@ -1,4 +1,4 @@
-pub mod Rules
 pub mod Header
 pub mod Ident
 pub mod Comment
+pub mod Fields

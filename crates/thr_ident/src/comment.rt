@@ -1,12 +1,15 @@
 // The comment header (Theora I, 6.1 and 6.3).
-ghost use Rattle.std.specs.Prelude.{◌≡◌, None, Some, IfOk, IfErr};
+ghost use Rattle.std.specs.Prelude.{◌≡◌, None, Some, Ok, IfOk, IfErr};
 ghost use Rattle.vid_base.specs.declared.fault.PacketFault.TheVariants.{CommentLength};
-ghost use Rattle.thr_ident.specs.Comment.{comment_of, length_in, after_text, after_texts};
+ghost use Rattle.thr_ident.specs.Comment.{comment_of, own_comment, length_in, after_text, after_texts};
 
 use vid_base::PacketFault;
 
 /// The first bytes of a comment header: its type, and the codec's name (Theora I, 6.1).
 const COMMENT_NAME: [u8; 7] = [0x81, b't', b'h', b'e', b'o', b'r', b'a'];
+
+/// The comment header of streams that are made here.
+const OWN_COMMENT: [u8; 21] = *b"\x81theora\x06\0\0\0oggcut\0\0\0\0";
 
 // The number at the front, and the bytes behind it.
 #[tactic(auto, unfolding(crate::specs::Comment::length_in))]
@@ -50,7 +53,7 @@ fn skip_texts(bytes: &[u8], count: u32) -> Result<&[u8], PacketFault>
 
 /// Looks for the first fault of a comment header: `NotComment`, where the first 7 bytes are not its; `CommentLength`,
 /// where a length is not whole or a text passes the end. Texts are not looked at, nor are bytes behind the last.
-#[tactic(auto, unfolding(crate::specs::Comment::comment_of, crate::specs::Comment::comment_rules, crate::specs::Rules::first_fault, crate::specs::Comment::after_comments))]
+#[tactic(auto, unfolding(crate::specs::Comment::comment_of, crate::specs::Comment::comment_rules, vid_base::specs::Rules::first_fault, crate::specs::Comment::after_comments))]
 pub fn read_comment(bytes: &[u8]) -> Result<(), PacketFault>
     ensures { result ≡ comment_of bytes.now }
 {
@@ -61,4 +64,13 @@ pub fn read_comment(bytes: &[u8]) -> Result<(), PacketFault>
     let (count, rest) = read_length(rest)?;
     skip_texts(rest, count)?;
     Ok(())
+}
+
+/// The comment header of streams that are made here: the vendor is `oggcut`, and there are no comments. `read_comment`
+/// accepts it.
+pub fn own_comment() -> &'static [u8]
+    ensures bytes { result.now ≡ own_comment }
+    ensures accepted { comment_of result.now ≡ Ok tt }
+{
+    &OWN_COMMENT
 }

@@ -1,9 +1,10 @@
 // Fields of an identification header, before any rule is looked at (Theora I, 6.2).
 ghost use Rattle.std.specs.Prelude.{◌≡◌, ◌+◌, ◌*◌, ◌^◌, ◌<◌, ◌≤◌, length, take, drop};
 ghost use Rattle.vid_base.specs.Bits.{bits_of, number};
+ghost use Rattle.thr_ident.specs.Fields.{header_from};
 ghost use Rattle.thr_ident.specs.Header.{header_in, ident_length, Fits};
 ghost use Rattle.thr_ident.specs.Ident.{has_sound_sizes, header_rules};
-ghost use Rattle.thr_ident.specs.Rules.{first_fault};
+ghost use Rattle.vid_base.specs.Rules.{first_fault};
 
 use vid_base::{BitReader, PacketFault};
 
@@ -24,7 +25,7 @@ const RESERVED_FORMAT: u8 = 1;
 
 /// What the fields of an identification header say, under the standard's names.
 #[derive(Clone, Copy)]
-pub(crate) struct Header {
+pub(crate) struct Fields {
     pub(crate) vmaj: u8,
     pub(crate) vmin: u8,
     pub(crate) vrev: u8,
@@ -77,15 +78,15 @@ fn byte(r: &mut BitReader) -> u8
     field(r, 8) as u8
 }
 
-impl Header {
+impl Fields {
     /// The fields of a packet that has all of them.
-    pub(crate) fn read(bytes: &[u8]) -> Header
+    pub(crate) fn read(bytes: &[u8]) -> Fields
         requires { ident_length ≤ length bytes.now }
-        ensures value { result ≡ header_in bytes.now }
-        ensures fits { Fits result }
+        ensures value { header_from result ≡ header_in bytes.now }
+        ensures fits { Fits (header_from result) }
     {
         let mut r = behind_name(bytes);
-        Header {
+        Fields {
             vmaj: byte(&mut r),
             vmin: byte(&mut r),
             vrev: byte(&mut r),
@@ -110,7 +111,7 @@ impl Header {
 
     // No size is 0, and the picture lies inside the coded frame.
     fn has_sound_sizes(&self) -> bool
-        ensures { result ≡ has_sound_sizes self.now }
+        ensures { result ≡ has_sound_sizes (header_from self.now) }
     {
         let across = u64::from(self.picx) + u64::from(self.picw);
         let upwards = u64::from(self.picy) + u64::from(self.pich);
@@ -123,9 +124,9 @@ impl Header {
     }
 
     /// The fault of the first rule that the fields do not keep.
-    #[tactic(auto, unfolding(crate::specs::Ident::header_rules, crate::specs::Rules::first_fault))]
+    #[tactic(auto, unfolding(crate::specs::Ident::header_rules, vid_base::specs::Rules::first_fault))]
     pub(crate) fn fault(&self) -> Option<PacketFault>
-        ensures { result ≡ first_fault (header_rules self.now) }
+        ensures { result ≡ first_fault (header_rules (header_from self.now)) }
     {
         if [self.vmaj, self.vmin] != VERSION {
             return Some(PacketFault::Version);

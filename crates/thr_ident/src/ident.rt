@@ -1,7 +1,7 @@
 // The identification header (Theora I, 6.2).
 ghost use Rattle.std.specs.Prelude.{◌≡◌, ◌≢◌, ◌+◌, ◌*◌, ◌^◌, ◌<◌, ◌≤◌};
 
-use crate::header::Header;
+use crate::header::Fields;
 use vid_base::Shape;
 
 /// What an identification header says, under the standard's names. It keeps the rules of the standard, its sizes are
@@ -56,9 +56,10 @@ pub struct Ident {
 }
 
 impl Ident {
+    ghost use Rattle.thr_ident.specs.Fields.{header_from};
     ghost use Rattle.thr_ident.specs.Header.{Fits};
     ghost use Rattle.thr_ident.specs.Ident.{header_of, header_rules};
-    ghost use Rattle.thr_ident.specs.Rules.{first_fault};
+    ghost use Rattle.vid_base.specs.Rules.{first_fault};
 
     /// The coded frame's size and its pixel format.
     pub fn shape(&self) -> Shape
@@ -74,28 +75,28 @@ impl Ident {
     }
 
     /// What a header says that keeps all rules.
-    pub(crate) fn of(header: &Header) -> Ident
-        requires fits { Fits header.now }
-        requires faultless { first_fault (header_rules header.now) ≡ None }
-        ensures { header_of result ≡ header.now }
+    pub(crate) fn of(fields: &Fields) -> Ident
+        requires fits { Fits (header_from fields.now) }
+        requires faultless { first_fault (header_rules (header_from fields.now)) ≡ None }
+        ensures { header_of result ≡ header_from fields.now }
     {
         Ident {
-            vrev: header.vrev,
-            fmbw: header.fmbw,
-            fmbh: header.fmbh,
-            picw: header.picw,
-            pich: header.pich,
-            picx: header.picx,
-            picy: header.picy,
-            frn: header.frn,
-            frd: header.frd,
-            parn: header.parn,
-            pard: header.pard,
-            cs: header.cs,
-            nombr: header.nombr,
-            qual: header.qual,
-            shift: header.shift,
-            pf: header.pf,
+            vrev: fields.vrev,
+            fmbw: fields.fmbw,
+            fmbh: fields.fmbh,
+            picw: fields.picw,
+            pich: fields.pich,
+            picx: fields.picx,
+            picy: fields.picy,
+            frn: fields.frn,
+            frd: fields.frd,
+            parn: fields.parn,
+            pard: fields.pard,
+            cs: fields.cs,
+            nombr: fields.nombr,
+            qual: fields.qual,
+            shift: fields.shift,
+            pf: fields.pf,
         }
     }
 }

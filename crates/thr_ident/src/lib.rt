@@ -10,7 +10,7 @@ mod ident;
 mod reading;
 mod writing;
 
-pub use comment::read_comment;
+pub use comment::{own_comment, read_comment};
 pub use ident::Ident;
 pub use reading::read_ident;
 pub use writing::write_ident;

@@ -1,4 +1,5 @@
 use crate::*;
+use std::test::Fail;
 use vid_base::PacketFault;
 
 // Frames of 16 by 16 samples in 4:2:0, 25 a second, aspect 1:1, quality 30, shift 6, version 3.2.1.
@@ -50,6 +51,57 @@ const VARIED_SAYS: Ident = Ident {
     nombr: 1_000_000,
     qual: 41,
     shift: 7,
+    pf: 3,
+};
+
+// The greatest number that each field takes in a frame as wide as can be, and in one as high.
+const WIDEST: [u8; 42] = [
+    0x80, 0x74, 0x68, 0x65, 0x6F, 0x72, 0x61, 0x03, 0x02, 0xFF, 0xFF, 0xFF, 0x00, 0x02, 0x0F, 0xFE,
+    0xF1, 0x00, 0x00, 0x01, 0xFF, 0x1F, 0xFF, 0xFF, 0xFF, 0xFF, 0xFF, 0xFF, 0xFF, 0xFF, 0xFF, 0xFF,
+    0xFF, 0xFF, 0xFF, 0xFF, 0xFF, 0xFF, 0xFF, 0xFF, 0xFF, 0xF8,
+];
+
+const WIDEST_SAYS: Ident = Ident {
+    vrev: 255,
+    fmbw: 65_535,
+    fmbh: 2,
+    picw: 1_048_305,
+    pich: 1,
+    picx: 255,
+    picy: 31,
+    frn: 4_294_967_295,
+    frd: 4_294_967_295,
+    parn: 16_777_215,
+    pard: 16_777_215,
+    cs: 255,
+    nombr: 16_777_215,
+    qual: 63,
+    shift: 31,
+    pf: 3,
+};
+
+const HIGHEST: [u8; 42] = [
+    0x80, 0x74, 0x68, 0x65, 0x6F, 0x72, 0x61, 0x03, 0x02, 0xFF, 0x00, 0x02, 0xFF, 0xFF, 0x00, 0x00,
+    0x01, 0x0F, 0xFE, 0xF1, 0x1F, 0xFF, 0xFF, 0xFF, 0xFF, 0xFF, 0xFF, 0xFF, 0xFF, 0xFF, 0xFF, 0xFF,
+    0xFF, 0xFF, 0xFF, 0xFF, 0xFF, 0xFF, 0xFF, 0xFF, 0xFF, 0xF8,
+];
+
+const HIGHEST_SAYS: Ident = Ident {
+    vrev: 255,
+    fmbw: 2,
+    fmbh: 65_535,
+    picw: 1,
+    pich: 1_048_305,
+    picx: 31,
+    picy: 255,
+    frn: 4_294_967_295,
+    frd: 4_294_967_295,
+    parn: 16_777_215,
+    pard: 16_777_215,
+    cs: 255,
+    nombr: 16_777_215,
+    qual: 63,
+    shift: 31,
     pf: 3,
 };
 
@@ -206,11 +258,18 @@ fn the_header_of_the_smallest_frame_has_these_42_bytes(rt: HostRuntime) {
 }
 
 #[test]
-fn each_field_stands_at_its_own_place(rt: HostRuntime) {
-    let mut out = Vec::new(rt.alloc());
-    assert_eq!(rt; write_ident(&VARIED_SAYS, &mut out), Ok(()));
-    assert!(rt; out.as_slice() == VARIED.as_slice());
-    assert_eq!(rt; read_ident(&VARIED), Ok(VARIED_SAYS));
+fn each_field_stands_at_its_own_place_up_to_its_greatest_number(rt: HostRuntime) {
+    let rows = [
+        (VARIED, VARIED_SAYS),
+        (WIDEST, WIDEST_SAYS),
+        (HIGHEST, HIGHEST_SAYS),
+    ];
+    for (bytes, says) in rows {
+        let mut out = Vec::new(rt.alloc());
+        assert_eq!(rt; write_ident(&says, &mut out), Ok(()));
+        assert!(rt; out.as_slice() == bytes.as_slice());
+        assert_eq!(rt; read_ident(&bytes), Ok(says));
+    }
     let shape = VARIED_SAYS.shape();
     assert_eq!(rt; (shape.fmbw, shape.fmbh, shape.pf), (300, 200, 3));
 }
@@ -262,6 +321,40 @@ fn a_comment_header_cut_anywhere_has_a_length_past_its_end(rt: HostRuntime) {
         }
         assert_eq!(rt; read_comment(packet), Ok(()));
     }
+}
+
+#[test]
+fn the_smallest_packets_that_are_no_headers(rt: HostRuntime) {
+    assert_eq!(rt; read_ident(b"").err(), Some(PacketFault::NotIdent));
+    assert_eq!(rt; read_ident(b"\x80theora").err(), Some(PacketFault::Ended));
+    assert_eq!(rt; read_comment(b""), Err(PacketFault::NotComment));
+    assert_eq!(rt;
+        read_comment(b"\x81theora"),
+        Err(PacketFault::CommentLength)
+    );
+}
+
+#[test]
+fn the_comment_header_of_streams_made_here_is_one(rt: HostRuntime) {
+    assert!(rt; own_comment() == COMMENT.as_slice());
+    assert_eq!(rt; read_comment(own_comment()), Ok(()));
+}
+
+#[test]
+fn a_comment_header_holds_very_many_texts_and_long_ones(rt: HostRuntime) -> Result<(), Fail> {
+    let mut packet = b"\x81theora".to_vec(rt.alloc())?;
+    packet.extend_from_slice(&200_000u32.to_le_bytes())?;
+    for _ in 0..200_000 {
+        packet.push(0xFF)?;
+    }
+    packet.extend_from_slice(&100_000u32.to_le_bytes())?;
+    for _ in 0..100_000 {
+        packet.extend_from_slice(&[1, 0, 0, 0, b'='])?;
+    }
+    assert_eq!(rt; read_comment(&packet), Ok(()));
+    let _ = packet.pop();
+    assert_eq!(rt; read_comment(&packet), Err(PacketFault::CommentLength));
+    Ok(())
 }
 
 #[test]

@@ -1,4 +1,4 @@
--- The length of a number in binary digits, and a number written behind another in 32 bits.
+-- The length of a number in binary digits, and a number written behind another.
 use Rattle.std.proofs.Common.{◌≡◌, ℕ, suc, ◌+◌, ◌*◌, ◌%◌, ◌^◌, ◌<◌, ◌≤◌, arith, inl, inr}
 use Rattle.std.proofs.Math.Nat.{pow-suc, mod-eq_of_lt, mul-le-mul_left}
 use Rattle.std.proofs.Math.Pow.{pow_mono}
@@ -32,9 +32,9 @@ joined_small m n v w h k =
     let most : suc v * 2 ^ n ≤ 2 ^ m * 2 ^ n = omega (arith, mul-le-mul_left (2 ^ n) h) in
     rw pow-add (omega arith)
 
--- and fits 32 bits where both have no more
-pub joined_fits : (m n v w : ℕ) → v < 2 ^ m → w < 2 ^ n → m + n ≤ 32 → (v * 2 ^ n + w < 4294967296) × (v * 2 ^ n % 4294967296 ≡ v * 2 ^ n)
-joined_fits m n v w h k room =
-    let most : 2 ^ (m + n) ≤ 2 ^ 32 = pow_mono room in
-    let below : v * 2 ^ n + w < 4294967296 = omega (arith, joined_small m n v w h k) in
+-- and fits k bits where both have no more
+pub joined_fits : (m n k v w : ℕ) → v < 2 ^ m → w < 2 ^ n → m + n ≤ k → (v * 2 ^ n + w < 2 ^ k) × (v * 2 ^ n % 2 ^ k ≡ v * 2 ^ n)
+joined_fits m n k v w h i room =
+    let most : 2 ^ (m + n) ≤ 2 ^ k = pow_mono room in
+    let below : v * 2 ^ n + w < 2 ^ k = omega (arith, joined_small m n v w h i) in
     (below, mod-eq_of_lt (omega arith))

@@ -6,3 +6,4 @@ pub mod ItemLemmas
 pub mod ArithmeticLemmas
 pub mod FrontLemmas
 pub mod ReadingLemmas
+pub mod WordLemmas

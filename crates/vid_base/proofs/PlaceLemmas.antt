@@ -2,7 +2,7 @@
 use Rattle.std.proofs.Common.{◌≡◌, ℕ, suc, ◌+◌, ◌-◌, ◌*◌, ◌/◌, ◌%◌, ◌^◌, ◌<◌, ◌≤◌, Bool, List, [], ◌∷◌, ◌++◌, length, drop, get_or, refl, ap, sym, ◌∙◌, arith, add-one, append_assoc}
 use Rattle.std.proofs.Math.Seq.{drop-cons}
 use Rattle.std.proofs.Math.Nat.{mod-eq_of_lt}
-use Rattle.std.proofs.Math.Pow.{pow_mono}
+use Rattle.std.proofs.Math.Pow.{pow-lt}
 use Rattle.std.proofs.lemmas.List.{length-drop, drop-append-le}
 use Rattle.vid_base.specs.Bits.{bit_of, byte_bits, bits_of, digits}
 use Rattle.vid_base.specs.Places.{left_at}
@@ -76,12 +76,11 @@ left_none bytes at shift e f = go (left_at bytes at shift) (length-left_at bytes
     go [] h = refl
     go (b ∷ bits) h = absurd (omega arith)
 
--- a shifted 1 of at most 8 places, in 32 bits
-pub one_shifted : (n : ℕ) → n ≤ 8 → 1 * 2 ^ n % 4294967296 ≡ 2 ^ n
-one_shifted n h =
-    let most : 2 ^ n ≤ 2 ^ 8 = pow_mono h in
+-- a shifted 1, in a number of k bits
+pub one_shifted : (n k : ℕ) → n < k → 1 * 2 ^ n % 2 ^ k ≡ 2 ^ n
+one_shifted n k h =
     let one : 1 * 2 ^ n ≡ 2 ^ n = omega arith in
-    rw one (mod-eq_of_lt (omega arith))
+    rw one (mod-eq_of_lt (pow-lt h))
 
 pub sub_self : (n : ℕ) → n - n ≡ 0
 sub_self n = omega arith

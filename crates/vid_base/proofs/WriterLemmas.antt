@@ -1,26 +1,7 @@
--- Bytes that a writer ends, and the digits that it still has to write.
-use Rattle.std.proofs.Common.{◌≡◌, ℕ, zero, suc, ◌+◌, ◌-◌, ◌*◌, ◌%◌, ◌^◌, ◌<◌, ◌≤◌, Bool, List, [], ◌∷◌, ◌++◌, length, length-append, refl, ap, sym, ◌∙◌, arith, append_assoc}
-use Rattle.std.proofs.lemmas.List.{append-nil}
-use mir.Val.{bool_byte}
-use Rattle.std.specs.Prelude.{true, false}
-use Rattle.vid_base.specs.Bits.{digits, zeros, bits_of, bit_of, digit, to_byte}
-use Rattle.vid_base.proofs.DigitLemmas.{digits-snoc, digits-mod, digits-shift, bits_of-append, bits_of-byte, length-bits_of, length-digits}
-
-pub bool_digit : (d : Bool) → bool_byte d ≡ digit d
-bool_digit true = refl
-bool_digit false = refl
-
--- a bit that fills a byte
-pub push_full : (items : List ℕ) (n u : ℕ) (b : Bool) → n ≡ 7 → bits_of (items ++ (2 * u + digit b) ∷ []) ++ digits 0 0 ≡ (bits_of items ++ digits n u) ++ b ∷ []
-unfolding digits
-push_full items n u b e =
-    append-nil _ ∙ bits_of-append items ((2 * u + digit b) ∷ [])
-    ∙ ap (λ d. bits_of items ++ d) (bits_of-byte (2 * u + digit b) ∙ (rw e (digits-snoc 7 u b)))
-    ∙ sym (append_assoc (bits_of items) (digits n u) (b ∷ []))
-
--- a bit that goes on with a byte
-pub push_more : (items : List ℕ) (n u : ℕ) (b : Bool) → bits_of items ++ digits (n + 1) (2 * u + digit b) ≡ (bits_of items ++ digits n u) ++ b ∷ []
-push_more items n u b = ap (λ d. bits_of items ++ d) (digits-snoc n u b) ∙ sym (append_assoc (bits_of items) (digits n u) (b ∷ []))
+-- Bytes that a writer fills, and the digits that it still has to write.
+use Rattle.std.proofs.Common.{◌≡◌, ℕ, ◌+◌, ◌-◌, ◌*◌, ◌/◌, ◌%◌, ◌^◌, ◌<◌, ◌≤◌, Bool, List, [], ◌∷◌, ◌++◌, length, length-append, ap, sym, ◌∙◌, arith, append_assoc}
+use Rattle.vid_base.specs.Bits.{digits, zeros, bits_of, to_byte}
+use Rattle.vid_base.proofs.DigitLemmas.{digits-cat, digits-joined, digits-mod, digits-shift, bits_of-append, bits_of-byte, length-bits_of, length-digits}
 
 -- a byte that is filled with zeros
 pub filled : (items : List ℕ) (n u : ℕ) → n ≤ 8 → bits_of (items ++ (u * 2 ^ (8 - n) % 256) ∷ []) ≡ (bits_of items ++ digits n u) ++ zeros (8 - n)
@@ -30,14 +11,23 @@ filled items n u h =
     ∙ ap (λ d. bits_of items ++ d) (bits_of-byte (u * 2 ^ (8 - n) % 256) ∙ digits-mod 8 8 (u * 2 ^ (8 - n)) (omega arith) ∙ ap (λ k. digits k (u * 2 ^ (8 - n))) whole ∙ digits-shift n (8 - n) u)
     ∙ sym (append_assoc (bits_of items) (digits n u) (zeros (8 - n)))
 
--- one bit further
-pub put_step : (s t old all : List Bool) (left v : ℕ) → 0 < left → t ≡ s ++ bit_of (left - 1) v ∷ [] → s ++ digits left v ≡ old ++ all → t ++ digits (left - 1) v ≡ old ++ all
-unfolding digits
-put_step s t old all zero v h e f = absurd (omega arith)
-put_step s t old all (suc left) v h e f = let back : suc left - 1 ≡ left = omega arith in rw (e, back) (append_assoc s (bit_of left v ∷ []) (digits left v) ∙ f)
+-- one byte further: the upper digits of a number become a byte, and the others are still to write
+pub byte_step : (items next : List ℕ) (bits left : ℕ) (all : List Bool) → 8 ≤ left → next ≡ items ++ (bits / 2 ^ (left - 8) % 256) ∷ []
+    → bits_of items ++ digits left bits ≡ all → bits_of next ++ digits (left - 8) bits ≡ all
+byte_step items next bits left all h e f =
+    let parts : left ≡ 8 + (left - 8) = omega arith in
+    let byte : bits_of ((bits / 2 ^ (left - 8) % 256) ∷ []) ≡ digits 8 (bits / 2 ^ (left - 8)) = bits_of-byte (bits / 2 ^ (left - 8) % 256) ∙ digits-mod 8 8 (bits / 2 ^ (left - 8)) (omega arith) in
+    ap (λ bytes. bits_of bytes ++ digits (left - 8) bits) e
+    ∙ ap (λ d. d ++ digits (left - 8) bits) (bits_of-append items ((bits / 2 ^ (left - 8) % 256) ∷ []) ∙ ap (λ d. bits_of items ++ d) byte)
+    ∙ append_assoc (bits_of items) (digits 8 (bits / 2 ^ (left - 8))) (digits (left - 8) bits)
+    ∙ ap (λ d. bits_of items ++ d) (sym (ap (λ n. digits n bits) parts ∙ digits-cat 8 (left - 8) bits))
+    ∙ f
 
-pub front_step : (s t old : List Bool) (b : Bool) → t ≡ s ++ b ∷ [] → ((more : List Bool) × (s ≡ old ++ more)) → (more : List Bool) × (t ≡ old ++ more)
-front_step s t old b e f = (f.0 ++ b ∷ [], e ∙ ap (λ r. r ++ b ∷ []) f.1 ∙ append_assoc old f.0 (b ∷ []))
+-- a byte that was begun, and a number behind it
+pub begun_then : (items : List ℕ) (count part n value : ℕ) (old : List Bool) → value < 2 ^ n → bits_of items ++ digits count part ≡ old
+    → bits_of items ++ digits (count + n) (part * 2 ^ n + value) ≡ old ++ digits n value
+begun_then items count part n value old h e =
+    ap (λ d. bits_of items ++ d) (digits-joined count n part value h) ∙ sym (append_assoc (bits_of items) (digits count part) (digits n value)) ∙ ap (λ d. d ++ digits n value) e
 
 -- how many bits are wanting to a byte that was begun
 pub view_length : (items : List ℕ) (n u : ℕ) (all : List Bool) → bits_of items ++ digits n u ≡ all → 0 < n → n < 8 → 8 - n ≡ to_byte (length all)

@@ -1,4 +1,4 @@
--- Whole-number arithmetic (Theora I, 1.5).
+-- Whole-number arithmetic (Theora I, Notation and Conventions).
 use Rattle.std.specs.Prelude.{ℕ, ℤ, pos, ◌+◌, ◌-◌, ◌*◌, ◌/◌, ◌-ℤ◌, if◌then◌else◌}
 use Rattle.std.specs.Int.{leading_zeros, w32, is_negative}
 use Rattle.std.specs.Int.RustNames.{unsigned_abs}

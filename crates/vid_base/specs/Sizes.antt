@@ -1,4 +1,4 @@
--- Sizes of a coded frame's planes; fmbw and fmbh count macro blocks, pf is the pixel format, pli the plane (Theora I, 2.2 and 2.4).
+-- Sizes of a coded frame's planes; fmbw and fmbh count macro blocks, pf is the pixel format, pli the plane (Theora I, 2.1 and 4.4).
 use Rattle.std.specs.Prelude.{ℕ, ◌≢◌, ◌*◌, ◌<◌, ◌≤◌, ◌==◌, ◌||◌, if◌then◌else◌}
 
 -- sizes and a format that a frame can have

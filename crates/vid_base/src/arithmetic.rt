@@ -1,4 +1,4 @@
-// Whole-number arithmetic of the specification (Theora I, 1.5).
+// Whole-number arithmetic of the specification (Theora I, Notation and Conventions).
 ghost use Rattle.std.specs.Prelude.{◌≡◌, ◌⊎◌, ℕ, ◌+◌, ◌*◌, ◌/◌, ◌<◌, ◌≤◌, ◌^◌, ◌<ℤ◌, ◌≤ℤ◌, pos, negsuc, int_div};
 ghost use Rattle.std.specs.Int.{int_wrap, w16};
 ghost use Rattle.vid_base.specs.Arithmetic.{bit_length, rounded};

@@ -1,4 +1,5 @@
-//! Bits, faults of packets, shapes of frames and whole-number arithmetic (Theora I, 2.2, 5.2 and 1.5).
+//! Bits, faults of packets, shapes of frames and whole-number arithmetic (Theora I, 2.1, 4.4, 5.2, and Notation and
+//! Conventions).
 //!
 //! Above this crate a reader and a writer are lists of bits: `take` gives the number of the first n bits and leaves
 //! those after them, and `put` adds the n digits of a number at the end.

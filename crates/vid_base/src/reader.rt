@@ -1,5 +1,5 @@
 // A reader of the bits of a packet (Theora I, 5.2).
-ghost use Rattle.std.specs.Prelude.{◌≡◌, ◌+◌, ◌*◌, ◌^◌, ◌<◌, ◌≤◌, ◌++◌, OnOk, OnErr, IfOk, IfSome, IsTrue, ◌↔◌, length};
+ghost use Rattle.std.specs.Prelude.{◌≡◌, ◌+◌, ◌*◌, ◌^◌, ◌<◌, ◌≤◌, ◌++◌, OnOk, OnErr, IfOk, IfSome, IsTrue, ◌↔◌, length, take, drop};
 ghost use Rattle.vid_base.specs.Bits.{take_bits, bits_of, digits, number_in};
 ghost use Rattle.vid_base.specs.Reading.{SameEnd, Taken, TakesBit};
 ghost use Rattle.vid_base.specs.Places.{left_at};
@@ -67,8 +67,54 @@ fn piece_at(bytes: &[u8], at: usize, shift: u8, most: u32) -> Piece
     }
 }
 
+// Eight bytes behind a place as one number, where so many are there.
+#[inline]
+fn word_at(bytes: &[u8], at: usize) -> Option<u64>
+    requires { at ≤ length bytes.now }
+    ensures bits { IfSome result (λ word. bits_of (take 8 (drop at bytes.now)) ≡ digits 64 word) }
+    ensures there { IfSome result (λ word. at + 8 ≤ length bytes.now) }
+{
+    let eight = bytes[at..].first_chunk::<8>()?;
+    Some(u64::from_be_bytes(*eight))
+}
+
+// The n bits of a word behind its first few. They go up to the word's end, and then down to the low end.
+#[inline]
+fn bits_in(word: u64, shift: u8, n: u32) -> u32
+    requires n { n ≤ 32 }
+    requires shift { shift < 8 }
+    ensures bits { digits n result ≡ take n (drop shift (digits 64 word)) }
+    ensures small { result < 2 ^ n }
+{
+    ((word << shift) >> 1 >> (63 - n)) as u32
+}
+
 // The number of the n bits behind a place, and the place behind them.
+#[inline]
 fn bits_at(bytes: &[u8], at: usize, shift: u8, n: u32) -> (u32, usize, u8)
+    requires n { n ≤ 32 }
+    requires shift { shift < 8 }
+    requires there { 8 * at + shift + n ≤ 8 * length bytes.now }
+    ensures bits { left_at bytes.now at shift ≡ digits n result.0 ++ left_at bytes.now result.1 result.2 }
+    ensures small { result.0 < 2 ^ n }
+    ensures place { 8 * result.1 + result.2 ≡ 8 * at + shift + n }
+    ensures shift { result.2 < 8 }
+{
+    match word_at(bytes, at) {
+        Some(word) => {
+            let end = u32::from(shift) + n;
+            (
+                bits_in(word, shift, n),
+                at + (end / 8) as usize,
+                (end % 8) as u8,
+            )
+        }
+        None => bits_by_bytes(bytes, at, shift, n),
+    }
+}
+
+// The same byte by byte, where the packet ends within eight bytes.
+fn bits_by_bytes(bytes: &[u8], at: usize, shift: u8, n: u32) -> (u32, usize, u8)
     requires n { n ≤ 32 }
     requires shift { shift < 8 }
     requires there { 8 * at + shift + n ≤ 8 * length bytes.now }

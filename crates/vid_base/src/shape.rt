@@ -1,4 +1,4 @@
-// Sizes of a coded frame and its planes (Theora I, 2.2 and 2.4).
+// Sizes of a coded frame and its planes (Theora I, 2.1 and 4.4).
 ghost use Rattle.std.specs.Prelude.{◌≡◌, ◌≢◌, ◌*◌, ◌<◌, ◌≤◌, ◌↔◌, ◌≤ℤ◌, pos, negsuc, IsSome, IfSome};
 ghost use Rattle.vid_base.specs.Sizes.{IsShape, plane_width, plane_height};
 

@@ -1,3 +1,5 @@
+ghost use Rattle.std.specs.Prelude.{◌<◌, ◌≤◌};
+
 use crate::*;
 
 #[test]
@@ -13,6 +15,63 @@ fn takes_numbers_across_bytes(rt: HostRuntime) {
     assert_eq!(rt; r.take(4), Ok(15));
     assert_eq!(rt; r.bit(), Err(Ended));
     assert_eq!(rt; (r.place(), r.left()), (16, 0));
+}
+
+/// A packet's bits as one number.
+const PACKET: u128 = 0x0123_4567_89ab_cdef_8f1e_2d3c_4b5a_6978;
+
+// The n bits of the packet behind the first few, by shifts of the whole.
+fn bits_behind(few: u32, n: u32) -> u32
+    requires few { few < 128 }
+    requires n { n ≤ 32 }
+{
+    (((PACKET << few) >> 1 >> (127 - n)) % (1 << 32)) as u32
+}
+
+#[test]
+fn takes_every_width_behind_every_bit_up_to_the_packets_end(rt: HostRuntime) {
+    let bytes = PACKET.to_be_bytes();
+    for len in 1..13usize {
+        let bits = 8 * len as u32;
+        for shift in 0..8u32 {
+            for n in 0..33u32 {
+                let mut r = BitReader::new(&bytes[..len]);
+                assert_eq!(rt; r.take(shift), Ok(bits_behind(0, shift)));
+                let there = shift + n <= bits;
+                let want = if there {
+                    Ok(bits_behind(shift, n))
+                } else {
+                    Err(Ended)
+                };
+                assert_eq!(rt; r.take(n), want, "{n} bits behind {shift} of {len} bytes");
+                let taken = if there { shift + n } else { shift };
+                let want = if taken + 17 <= bits {
+                    Ok(bits_behind(taken, 17))
+                } else {
+                    Err(Ended)
+                };
+                assert_eq!(rt; r.take(17), want, "17 bits behind {taken} of {len} bytes");
+            }
+        }
+    }
+}
+
+#[test]
+fn puts_every_width_behind_every_bit(rt: HostRuntime) {
+    for shift in 0..8u32 {
+        for n in 0..33u32 {
+            let value = bits_behind(40, n);
+            assert!(rt; n == 32 || value < 1u32 << n);
+            let mut w = BitWriter::new(rt.alloc());
+            assert_eq!(rt;
+                (w.put(0, shift), w.put(value, n), w.put(1, 1)),
+                (Ok(()), Ok(()), Ok(()))
+            );
+            let all = ((u64::from(value) << 1) + 1) << (63 - shift - n);
+            let want = &all.to_be_bytes()[..((shift + n) / 8 + 1) as usize];
+            assert!(rt; w.finish().as_slice() == want, "{n} bits behind {shift}");
+        }
+    }
 }
 
 #[test]

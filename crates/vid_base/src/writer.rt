@@ -1,7 +1,7 @@
 // A writer of the bits of a packet (Theora I, 5.2).
-ghost use Rattle.std.specs.Prelude.{◌≡◌, ◌+◌, ◌*◌, ◌^◌, ◌<◌, ◌≤◌, ◌∷◌, ◌++◌, [], ℕ, Bool, List, Some, OnOk, OnErr, length, vec_len, vec_capacity};
+ghost use Rattle.std.specs.Prelude.{◌≡◌, ◌+◌, ◌*◌, ◌/◌, ◌^◌, ◌<◌, ◌≤◌, ◌∷◌, ◌++◌, [], ℕ, Bool, List, Some, OnOk, OnErr, length, vec_len, vec_capacity};
 ghost use Rattle.vid_base.specs.Bits.{digits, bits_of, zeros, to_byte, take_bits};
-ghost use Rattle.vid_base.specs.Writing.{AddsBit, Grows};
+ghost use Rattle.vid_base.specs.Writing.{Grows};
 
 use crate::NoMem;
 use std::alloc::Global;
@@ -27,25 +27,31 @@ impl Model for BitWriter {
     ghost invariant = { λ w. (w.count < 8) × (w.part < 2 ^ w.count) × (0 < w.count → vec_len w.bytes < vec_capacity w.bytes) };
 }
 
-// Room for one more byte, unless a byte that was begun has it already.
-fn make_room(bytes: &mut Vec<u8>, count: u8) -> Result<(), NoMem>
-    requires { 0 < count → vec_len bytes.old < vec_capacity bytes.old }
-    ensures items { bytes.new.items ≡ bytes.old.items }
-    ensures room { OnOk result (vec_len bytes.new < vec_capacity bytes.new) }
-    ensures memory { OnErr result (count ≡ 0) }
-{
-    if count == 0 {
-        bytes.try_reserve(1)?;
-    }
-    Ok(())
-}
-
 // One more byte, for which there is room.
 fn add_byte(bytes: &mut Vec<u8>, byte: u8)
     requires { vec_len bytes.old < vec_capacity bytes.old }
-    ensures { bytes.new.items ≡ bytes.old.items ++ byte ∷ [] }
+    ensures items { bytes.new.items ≡ bytes.old.items ++ byte ∷ [] }
+    ensures len { vec_len bytes.new ≡ vec_len bytes.old + 1 }
+    ensures capacity { vec_capacity bytes.old ≤ vec_capacity bytes.new }
 {
     let _ = bytes.push(byte);
+}
+
+// The lowest `count` bits of a number, as far as they fill bytes, for which there is room. Says how many bits are over;
+// the byte that they begin has its room too.
+fn add_bytes(bytes: &mut Vec<u8>, bits: u64, count: u32) -> u32
+    requires count { count < 64 }
+    requires room { vec_len bytes.old + (count + 7) / 8 ≤ vec_capacity bytes.old }
+    ensures written { bits_of bytes.new.items ++ digits result bits ≡ bits_of bytes.old.items ++ digits count bits }
+    ensures over { result < 8 }
+    ensures room { 0 < result → vec_len bytes.new < vec_capacity bytes.new }
+{
+    let mut left = count;
+    while left >= 8 {
+        left -= 8;
+        add_byte(bytes, ((bits >> left) % 256) as u8);
+    }
+    left
 }
 
 impl BitWriter {
@@ -60,24 +66,6 @@ impl BitWriter {
         }
     }
 
-    // One more bit.
-    fn push(&mut self, bit: bool) -> Result<(), NoMem>
-        ensures written { OnOk result (AddsBit bit self.old self.new) }
-        ensures memory { OnErr result (self.new ≡ self.old) }
-    {
-        make_room(&mut self.bytes, self.count)?;
-        let part = 2 * self.part + u8::from(bit);
-        if self.count == 7 {
-            add_byte(&mut self.bytes, part);
-            self.part = 0;
-            self.count = 0;
-        } else {
-            self.part = part;
-            self.count += 1;
-        }
-        Ok(())
-    }
-
     /// Adds the lowest n bits of the value, the highest first. After `NoMem` the bits that were there are followed by
     /// some of them.
     pub fn put(&mut self, value: u32, n: u32) -> Result<(), NoMem>
@@ -87,11 +75,12 @@ impl BitWriter {
         ensures memory { OnErr result (Grows self.old self.new) }
         ensures reads_back { OnOk result ((rest : List Bool) → take_bits n (digits n value ++ rest) ≡ Some (value, rest)) }
     {
-        let mut left = n;
-        while left > 0 {
-            left -= 1;
-            self.push((value >> left) % 2 == 1)?;
-        }
+        let count = u32::from(self.count) + n;
+        self.bytes.try_reserve(((count + 7) / 8) as usize)?;
+        let bits = (u64::from(self.part) << n) + u64::from(value);
+        let over = add_bytes(&mut self.bytes, bits, count);
+        self.part = (bits % (1 << over)) as u8;
+        self.count = over as u8;
         Ok(())
     }
 

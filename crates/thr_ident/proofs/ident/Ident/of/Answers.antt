@@ -1,10 +1,11 @@
 use Rattle.std.proofs.Common.{arith}
+use Rattle.thr_ident.specs.Fields.{header_from}
 use Rattle.thr_ident.proofs.RuleLemmas.{kept, header_same}
 use Rattle.thr_ident.proofs.ident.Ident.of.Goals as goal
 
 pub invariant_of-result : goal.invariant_of-result
 invariant_of-result c =
-    let keeps = kept c.args.header.now c.requires.faultless in
+    let keeps = kept (header_from c.args.fields.now) c.requires.faultless in
     record {
       coded = (keeps.wide, keeps.high);
       small = keeps.small;
@@ -22,5 +23,5 @@ invariant_of-result c =
 
 pub returns : goal.returns
 returns c =
-    let keeps = kept c.args.header.now c.requires.faultless in
-    header_same c.args.header.now keeps.vmaj keeps.vmin keeps.reserved
+    let keeps = kept (header_from c.args.fields.now) c.requires.faultless in
+    header_same (header_from c.args.fields.now) keeps.vmaj keeps.vmin keeps.reserved

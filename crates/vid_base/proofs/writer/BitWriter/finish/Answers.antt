@@ -7,7 +7,7 @@ use Rattle.vid_base.proofs.writer.BitWriter.finish.Goals as goal
 pub returns-then-self-gt0 : goal.returns-then-self-gt0
 returns-then-self-gt0 c =
     let wanting : 8 - c.self.inside.count ≡ to_byte (length c.args.self) = view_length c.self.inside.bytes.items c.self.inside.count c.self.inside.part c.args.self c.self.view_is (omega arith) (omega arith) in
-    rw (← wanting, c.add_byte.ensures) (filled c.self.inside.bytes.items c.self.inside.count c.self.inside.part (omega arith) ∙ ap (λ s. s ++ zeros (8 - c.self.inside.count)) c.self.view_is)
+    rw (← wanting, c.add_byte.ensures.items) (filled c.self.inside.bytes.items c.self.inside.count c.self.inside.part (omega arith) ∙ ap (λ s. s ++ zeros (8 - c.self.inside.count)) c.self.view_is)
 
 pub returns-else-self-gt0 : goal.returns-else-self-gt0
 unfolding zeros digits

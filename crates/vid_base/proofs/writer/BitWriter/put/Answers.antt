@@ -1,25 +1,18 @@
-use Rattle.std.proofs.Common.{rules, ◌≡◌, ◌∷◌, [], ◌++◌, ◌-◌, arith, sym, ◌∙◌}
-use Rattle.std.proofs.lemmas.List.{append-nil}
-use Rattle.vid_base.specs.Bits.{digits, bit_of}
+use Rattle.std.proofs.Common.{◌+◌, ◌*◌, ◌%◌, ◌^◌, arith, ◌∙◌}
+use Rattle.vid_base.proofs.ArithmeticLemmas.{joined_fits}
+use Rattle.vid_base.proofs.DigitLemmas.{digits-mod}
 use Rattle.vid_base.proofs.NumberLemmas.{take-digits}
-use Rattle.vid_base.proofs.WriterLemmas.{put_step, front_step}
+use Rattle.vid_base.proofs.PlaceLemmas.{one_shifted}
+use Rattle.vid_base.proofs.WriterLemmas.{begun_then}
 use Rattle.vid_base.proofs.writer.BitWriter.put.Goals as goal
 
-pub loop-left-preserved : goal.loop-left-preserved
-loop-left-preserved c =
-    let step : c.push.new.self ≡ c.loop-left.self ++ bit_of (c.loop-left.left - 1) c.args.value ∷ [] = search rules in
-    record {
-      all = put_step c.loop-left.self c.push.new.self c.args.self.now (digits c.args.n c.args.value) c.loop-left.left c.args.value c.loop-left-test.true step c.loop-left.invariant.all;
-      bound = omega arith;
-      front = front_step c.loop-left.self c.push.new.self c.args.self.now (bit_of (c.loop-left.left - 1) c.args.value) step c.loop-left.invariant.front;
-    }
-
 pub returns-clause-written : goal.returns-clause-written
-unfolding digits
 returns-clause-written c =
-    let done : c.loop-left.left ≡ 0 = omega arith in
-    let all = rw done at c.loop-left.invariant.all in
-    sym (append-nil c.loop-left.self) ∙ all
+    let over = c.add_bytes-over.result in
+    let whole = (joined_fits c.self.inside.count c.args.n 64 c.self.inside.part c.args.value (c.self.invariant.1) c.requires.value (omega arith)).1 in
+    rw (one_shifted over 64 (omega arith), digits-mod over over (c.from-2.result * 2 ^ c.args.n % 2 ^ 64 + c.from-3.result) (omega arith))
+    (c.add_bytes-over.ensures.written ∙ rw (c.in_ok-try_reserve.ensures.items, c.from.ensures, c.from-2.ensures, c.from-3.ensures, whole)
+    (begun_then c.self.inside.bytes.items c.self.inside.count c.self.inside.part c.args.n c.args.value c.args.self.now c.requires.value c.self.view_is))
 
 pub returns-clause-reads_back : goal.returns-clause-reads_back
 returns-clause-reads_back c = λ rest. take-digits c.args.n c.args.value rest c.requires.value

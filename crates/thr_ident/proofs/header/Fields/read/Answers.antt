@@ -3,7 +3,7 @@ use Rattle.std.proofs.Common.{refl}
 use Rattle.vid_base.specs.Bits.{bits_of}
 use Rattle.thr_ident.specs.Header.{header_in}
 use Rattle.thr_ident.proofs.FieldLemmas.{behind_more, field-behind}
-use Rattle.thr_ident.proofs.header.Header.read.Goals as goal
+use Rattle.thr_ident.proofs.header.Fields.read.Goals as goal
 
 pub returns-clause-value : goal.returns-clause-value
 unfolding header_in

@@ -1,7 +1,7 @@
 use Rattle.std.proofs.Common.{◌≡◌, ◌+◌, ◌-◌, ◌*◌, ◌^◌, ◌<◌, ◌≤◌, ◌++◌}
 use Rattle.vid_base.specs.Bits.{digits}
 use Rattle.vid_base.specs.Places.{left_at}
-use Rattle.vid_base.proofs.reader.bits_at.Given as goal
+use Rattle.vid_base.proofs.reader.bits_by_bytes.Given as goal
 
 -- the digits of the value so far, and then what is left, are what was there
 abbrev pub invariant-pieces : goal.invariant-pieces
