@@ -1,2 +1,2 @@
-pub mod SetupLemmas
+pub mod PacketLemmas
 pub mod ImportLemmas
