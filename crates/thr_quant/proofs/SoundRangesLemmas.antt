@@ -7,10 +7,11 @@ use Rattle.std.proofs.lemmas.List.Elements.{All-nil, All-cons}
 use Rattle.vid_base.specs.declared.fault.PacketFault.TheVariants.{MatrixIndex, Ramp}
 use Rattle.vid_base.specs.Arithmetic.{bit_length}
 use Rattle.vid_base.specs.Reading.{field}
+use Rattle.vid_base.proofs.SoundLemmas.{value-is, went_on, unless_met, where_met}
 use Rattle.thr_quant.specs.declared.ranges.Range.{Range}
 use Rattle.thr_quant.specs.Ranges.{Ranges, AreWhole, NameMatrices, matrix_index_of, range_of, list_of, ranges_of}
 use Rattle.thr_quant.specs.Ramps.{Ramps, AreOfPlanes, IsRamps, copy_of, pair_of, pairs_of, ramps_of, scales_of, matrices_of}
-use Rattle.thr_quant.proofs.SoundLemmas.{value-is, went_on, unless_met, where_met, scales_of-sound, matrices_of-sound}
+use Rattle.thr_quant.proofs.SoundLemmas.{scales_of-sound, matrices_of-sound}
 
 -- an index names a base matrix
 index-sound : (n : ℕ) (bits : List Bool) (y : ℕ × List Bool) → matrix_index_of n bits ≡ Ok y → y.0 < n
