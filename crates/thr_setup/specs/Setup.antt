@@ -5,10 +5,10 @@ use Rattle.vid_base.specs.declared.fault.PacketFault.{PacketFault}
 use Rattle.vid_base.specs.declared.fault.PacketFault.TheVariants.{NotSetup}
 use Rattle.vid_base.specs.Bits.{bits_of, number, zeros, to_byte}
 use Rattle.vid_base.specs.Reading.{◌>>=◌}
-use Rattle.thr_quant.specs.Limits.{limits_of, limits_bits}
-use Rattle.thr_quant.specs.Ramps.{Ramps, ramps_of, ramps_bits}
+use Rattle.thr_quant.specs.Limits.{IsLimits, limits_of, limits_bits}
+use Rattle.thr_quant.specs.Ramps.{IsRamps, Ramps, ramps_of, ramps_bits}
 use Rattle.thr_huff.specs.CodeTree.{CodeTree}
-use Rattle.thr_huff.specs.Trees.{forest_at, forest_bits}
+use Rattle.thr_huff.specs.Trees.{IsForest, forest_at, forest_bits}
 use Rattle.thr_setup.specs.declared.setup.Setup.{Setup}
 
 -- what a setup header says: the limits of the loop filter, the quantisers, and 80 trees
@@ -16,6 +16,12 @@ pub record Contents : Type 0 where
   pub limits : List ℕ
   pub ramps : Ramps
   pub forest : List CodeTree
+
+-- what a setup header can say
+pub record IsSetup (contents : Contents) : Type 0 where
+  pub limits : IsLimits contents.limits
+  pub ramps : IsRamps contents.ramps
+  pub forest : IsForest contents.forest
 
 -- what a setup says
 abbrev pub contents : Setup → Contents
