@@ -1,7 +1,9 @@
 -- Huffman codes: which bits lead to which token (Theora I, 6.4.4 and 7.7.3). A code is its bits with its token.
-use Rattle.std.specs.Prelude.{ℕ, Bool, true, false, List, [], ◌∷◌, ◌++◌, map, length, drop, Option, option_map, slice_index_or, ◌==◌}
+use Rattle.std.specs.Prelude.{ℕ, Bool, true, false, List, [], ◌∷◌, ◌++◌, map, length, drop, Option, Result, option_map, slice_index_or, ◌==◌}
 use Rattle.std.specs.List.{find}
+use Rattle.vid_base.specs.declared.fault.PacketFault.{PacketFault}
 use Rattle.vid_base.specs.Bits.{digits}
+use Rattle.vid_base.specs.Reading.{or_ended}
 use Rattle.thr_huff.specs.declared.code.Code.{Code}
 use Rattle.thr_huff.specs.CodeTree.{CodeTree, Token, Fork}
 
@@ -42,6 +44,10 @@ token_and_rest bits code = (code.1, drop (length code.0) bits)
 -- the token of the code that is a prefix of the bits, with the bits behind that code
 unfoldable pub front_token : Codes → List Bool → Option (ℕ × List Bool)
 front_token codes bits = option_map (token_and_rest bits) (front_code codes bits)
+
+-- the same as a reading: Ended, where the bits begin with no code
+unfoldable pub token_read : Codes → List Bool → Result (ℕ × List Bool) PacketFault
+token_read codes bits = or_ended (front_token codes bits)
 
 -- the bits of the first code in reading order that has this token
 unfoldable pub code_of : Codes → ℕ → Option (List Bool)

@@ -7,8 +7,8 @@ ghost use Rattle.thr_huff.specs.Codes.{codes_of, front_token};
 ghost use Rattle.thr_huff.specs.Trees.{IsTree, tree_at};
 ghost use Rattle.thr_huff.specs.Tables.{IsTable, deeper, entry_of};
 
-use crate::tree::{Tree, read_tree, walk};
-use std::alloc::Global;
+use crate::tree::{Tree, copied, read_tree, walk};
+use std::alloc::{AllocError, Global};
 use vid_base::{BitReader, Ended, NoMem, Refusal};
 
 // How many bits the table looks at.
@@ -80,10 +80,21 @@ impl Book {
         Ok(Book { tree, table })
     }
 
+    // The same tree with the same table.
+    pub(crate) fn copied(&self) -> Result<Book, AllocError>
+        ensures { IfOk result (λ copy. code_tree copy.tree ≡ code_tree self.now.tree) }
+    {
+        let alloc = *self.table.allocator();
+        let tree = copied(alloc, &self.tree)?;
+        let table = Vec::from_slice(alloc, &self.table)?;
+        Ok(Book { tree, table })
+    }
+
     // Reads one tree.
     pub(crate) fn read(alloc: Global, r: &mut BitReader) -> Result<Book, Refusal>
         ensures value { GivesOrNoMem (λ book. code_tree book.tree) result r.new.left (tree_at 33 0 r.old.left) }
         ensures tree { IfOk result (λ book. IsTree (code_tree book.tree)) }
+        ensures end { SameEnd r.old r.new }
     {
         let mut leaves = 0;
         let tree = read_tree(alloc, r, MOST_LEVELS, &mut leaves)?;

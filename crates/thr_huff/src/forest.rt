@@ -1,15 +1,15 @@
 // The 80 trees of a setup header (Theora I, 6.4.4 and 7.7.3).
-ghost use Rattle.std.specs.Prelude.{◌≡◌, ◌<◌, ◌++◌, [], ℕ, List, Bool, Some, Ok, map, IsSome, IfOk, IfSome, IfNone, OnOk, OnErr, IsTrue, ◌↔◌, ◌+◌, ◌*◌, option_map};
-ghost use Rattle.vid_base.specs.Reading.{GivesOrNoMem, SameEnd, Taken};
+ghost use Rattle.std.specs.Prelude.{◌≡◌, ◌<◌, ◌++◌, [], ℕ, List, Bool, Some, Ok, map, is_some, IfOk, IfSome, IfNone, OnOk, OnErr, option_map};
+ghost use Rattle.vid_base.specs.Reading.{GivesOrNoMem, KeptOnNoMem, SameEnd, Taken};
 ghost use Rattle.thr_huff.specs.CodeTree.{code_tree};
 ghost use Rattle.thr_huff.specs.Codes.{codes_at, front_token, code_of, code_bits};
 ghost use Rattle.thr_huff.specs.Trees.{IsForest, forest_at, forest_bits};
-ghost use Rattle.thr_huff.specs.Rows.{IsFullRow, HasAllTokens};
+ghost use Rattle.thr_huff.specs.Rows.{IsFullRow, full_row_of, has_all_tokens, is_full_row};
 
 use crate::book::Book;
 use crate::code::Code;
 use crate::tree::{Tree, code_in, write_tree};
-use std::alloc::Global;
+use std::alloc::{AllocError, Global};
 use std::marker::Model;
 use vid_base::{BitReader, BitWriter, Ended, NoMem, Refusal};
 
@@ -44,10 +44,23 @@ impl Model for Forest {
     ghost invariant = { λ f. IsForest (map (λ b. code_tree b.tree) f.books.items) };
 }
 
-/// Reads 80 trees. The first fault in reading order is `Ended`, `TreeDeep` where a tree goes deeper than 32 bits, or
-/// `TreeLeaves` where a tree has more than 32 leaves. Where the reader stands after a refusal is left open.
-pub fn read_forest(alloc: Global, r: &mut BitReader) -> Result<Forest, Refusal>
+/// A copy has the same trees, and memory of its own.
+impl Clone for Forest {
+    ghost is_clone = { λ v w. w ≡ v };
+
+    fn clone(&self) -> Result<Self, AllocError> {
+        let mut books = Vec::with_capacity(*self.books.allocator(), TREES)?;
+        'trees: for book in &self.books {
+            books.push(book.copied()?)?;
+        }
+        Ok(Forest { books })
+    }
+}
+
+// 80 trees, one behind the other.
+fn read_trees(alloc: Global, r: &mut BitReader) -> Result<Forest, Refusal>
     ensures value { GivesOrNoMem (λ forest. forest) result r.new.left (forest_at r.old.left) }
+    ensures end { SameEnd r.old r.new }
 {
     let mut books = Vec::with_capacity(alloc, TREES)?;
     'trees: while books.len() < TREES {
@@ -55,6 +68,25 @@ pub fn read_forest(alloc: Global, r: &mut BitReader) -> Result<Forest, Refusal>
         books.push(book)?;
     }
     Ok(Forest { books })
+}
+
+/// Reads 80 trees. The first fault in reading order is `Ended`, `TreeDeep` where a tree goes deeper than 32 bits, or
+/// `TreeLeaves` where a tree has more than 32 leaves. Where the reader stands after a fault is left open; after `NoMem` it
+/// is as it was.
+pub fn read_forest(alloc: Global, r: &mut BitReader) -> Result<Forest, Refusal>
+    ensures value { GivesOrNoMem (λ forest. forest) result r.new.left (forest_at r.old.left) }
+    ensures memory { KeptOnNoMem result r.old r.new }
+    ensures end { SameEnd r.old r.new }
+{
+    let start = r.copy();
+    match read_trees(alloc, r) {
+        Ok(forest) => Ok(forest),
+        Err(Refusal::Bad(fault)) => Err(Refusal::Bad(fault)),
+        Err(Refusal::NoMem) => {
+            *r = start;
+            Err(Refusal::NoMem)
+        }
+    }
 }
 
 /// Adds the bits of the 80 trees. After `NoMem` the bits that were there are followed by some of them.
@@ -109,17 +141,27 @@ impl Forest {
 
     /// The least number, 0 to 15, whose trees hold all 32 tokens in each of the five groups; None where there is none.
     pub fn full_row(&self) -> Option<u8>
+        ensures value { result ≡ full_row_of self.now }
         ensures full { IfSome result (λ number. (number < 16) × IsFullRow self.now number) }
         ensures least { IfSome result (λ number. (k : ℕ) → k < number → ¬ (IsFullRow self.now k)) }
         ensures none { IfNone result ((number : ℕ) → number < 16 → ¬ (IsFullRow self.now number)) }
+    {
+        self.first_full()
+    }
+
+    // The first number whose trees hold all tokens.
+    #[tactic(auto, unfolding(crate::specs::Rows::full_row_of))]
+    fn first_full(&self) -> Option<u8>
+        ensures { result ≡ full_row_of self.now }
     {
         (0..ROWS).find(|&number| self.is_full_row(number))
     }
 
     // Whether the trees of this number hold all tokens.
+    #[tactic(auto, unfolding(crate::specs::Rows::is_full_row))]
     fn is_full_row(&self, number: u8) -> bool
         requires { number < 16 }
-        ensures { IsTrue result ↔ IsFullRow self.now number }
+        ensures { result ≡ is_full_row self.now number }
     {
         (0..GROUPS).all(|group| self.has_all_tokens(ROWS * group + number))
     }
@@ -128,15 +170,16 @@ impl Forest {
     fn has_token(&self, hti: u8, token: u8) -> bool
         requires hti { hti < 80 }
         requires token { token < 32 }
-        ensures { IsTrue result ↔ IsSome (code_of (codes_at self.now hti) token) }
+        ensures { result ≡ is_some (code_of (codes_at self.now hti) token) }
     {
         self.code(hti, token).is_some()
     }
 
     // Whether a code of tree hti leads to each token.
+    #[tactic(auto, unfolding(crate::specs::Rows::has_all_tokens))]
     fn has_all_tokens(&self, hti: u8) -> bool
         requires { hti < 80 }
-        ensures { IsTrue result ↔ HasAllTokens (codes_at self.now hti) }
+        ensures { result ≡ has_all_tokens (codes_at self.now hti) }
     {
         (0..TOKENS).all(|token| self.has_token(hti, token))
     }

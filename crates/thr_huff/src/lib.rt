@@ -8,10 +8,12 @@
 mod book;
 mod code;
 mod forest;
+mod laws;
 mod tree;
 
 pub use code::Code;
 pub use forest::{Forest, read_forest, write_forest};
+pub use laws::{tokens_read_from_the_front, trees_of_a_header};
 pub use tree::Tree;
 
 #[cfg(test)]

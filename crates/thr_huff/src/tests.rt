@@ -84,6 +84,32 @@ fn the_first_fault_of_a_forest_in_reading_order_is_refused(rt: HostRuntime) {
     }
 }
 
+#[test]
+fn a_fault_of_the_last_tree_is_refused(rt: HostRuntime) -> Result<(), Fail> {
+    let rows: [(&str, u32, u32, u32, PacketFault); 4] = [
+        ("no bits", 0, 0, 0, PacketFault::Ended),
+        ("a leaf that ends", 1, 1, 2, PacketFault::Ended),
+        ("33 levels", 33, 0, 1, PacketFault::TreeDeep),
+        ("33 leaves", 32, 32, 7, PacketFault::TreeLeaves),
+    ];
+    for (name, times, value, n, want) in rows {
+        let mut w = BitWriter::new(rt.alloc());
+        for _ in 0..79 {
+            put_leaf(&mut w, 31)?;
+        }
+        for _ in 0..times {
+            assert!(rt; n <= 32 && value < 1u32 << n);
+            w.put(value, n)?;
+        }
+        if want == PacketFault::TreeLeaves {
+            w.put(1, 1)?;
+        }
+        let got = read_forest(rt.alloc(), &mut BitReader::new(&w.finish())).err();
+        assert_eq!(rt; got, Some(Refusal::Bad(want)), "{name}");
+    }
+    Ok(())
+}
+
 // The forest of such trees, read from its bytes.
 fn planted(alloc: Global, kinds: &[Kind; 80]) -> Result<Forest, Fail> {
     let bytes = written(alloc, kinds)?;
@@ -115,17 +141,23 @@ fn a_token_has_the_code_of_its_first_leaf(rt: HostRuntime) -> Result<(), Fail> {
     Ok(())
 }
 
+// A tree has at most 32 leaves, so that no code has more than 31 bits: those of a chain.
 #[test]
-fn a_forest_writes_the_bits_that_it_was_read_from(rt: HostRuntime) -> Result<(), Fail> {
-    let mut kinds = [Kind::Repeated; 80];
-    kinds[0] = Kind::Chain;
-    kinds[1] = Kind::Leaf(31);
-    kinds[79] = Kind::Full;
-    let bytes = written(rt.alloc(), &kinds)?;
-    let forest = planted(rt.alloc(), &kinds)?;
-    let mut w = BitWriter::new(rt.alloc());
-    write_forest(&mut w, &forest)?;
-    assert!(rt; w.finish().as_slice() == bytes.as_slice());
+fn a_forest_and_its_copy_write_the_bits_that_it_was_read_from(rt: HostRuntime) -> Result<(), Fail> {
+    let mut mixed = [Kind::Repeated; 80];
+    mixed[0] = Kind::Chain;
+    mixed[1] = Kind::Leaf(31);
+    mixed[79] = Kind::Full;
+    for kinds in [mixed, [Kind::Full; 80], [Kind::Chain; 80]] {
+        let bytes = written(rt.alloc(), &kinds)?;
+        let forest = planted(rt.alloc(), &kinds)?;
+        let copy = forest.clone()?;
+        for each in [forest, copy] {
+            let mut w = BitWriter::new(rt.alloc());
+            write_forest(&mut w, &each)?;
+            assert!(rt; w.finish().as_slice() == bytes.as_slice());
+        }
+    }
     Ok(())
 }
 

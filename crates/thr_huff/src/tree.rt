@@ -6,7 +6,7 @@ ghost use Rattle.thr_huff.specs.Codes.{codes_of, code_of, code_bits, front_token
 ghost use Rattle.thr_huff.specs.Trees.{FitsLevels, tree_at, tree_bits};
 
 use crate::Code;
-use std::alloc::Global;
+use std::alloc::{AllocError, Global};
 use vid_base::{BitReader, BitWriter, Ended, NoMem, PacketFault, Refusal};
 
 // The most leaves of a tree.
@@ -39,6 +39,21 @@ impl Tree {
     }
 }
 
+// A tree with the same codes.
+#[tactic(auto, unfolding(crate::specs::CodeTree::code_tree))]
+pub(crate) fn copied(alloc: Global, tree: &Tree) -> Result<Tree, AllocError>
+    ensures { IfOk result (λ copy. code_tree copy ≡ code_tree tree.now) }
+{
+    match tree {
+        Tree::Leaf(token) => Ok(Tree::Leaf(*token)),
+        Tree::Branch(left, right) => {
+            let left = Box::new(alloc, copied(alloc, left)?)?;
+            let right = Box::new(alloc, copied(alloc, right)?)?;
+            Ok(Tree::Branch(left, right))
+        }
+    }
+}
+
 // A tree of at most so many levels, and the leaves that were read so far.
 #[tactic(auto, unfolding(crate::specs::Trees::tree_at))]
 pub(crate) fn read_tree(
@@ -53,6 +68,7 @@ pub(crate) fn read_tree(
     ensures count { IfOk result (λ tree. leaves.new ≡ leaves.old + length (codes_of (code_tree tree))) }
     ensures few { leaves.new ≤ 32 }
     ensures fits { IfOk result (λ tree. FitsLevels levels (code_tree tree)) }
+    ensures end { SameEnd r.old r.new }
 {
     if levels == 0 {
         return Err(Refusal::Bad(PacketFault::TreeDeep));

@@ -8,3 +8,7 @@ pub mod ReadingBackLemmas
 pub mod RangesBackLemmas
 pub mod PairsLemmas
 pub mod MeetingLemmas
+pub mod SoundLemmas
+pub mod SoundRangesLemmas
+pub mod WholeLemmas
+pub mod FrontLemmas

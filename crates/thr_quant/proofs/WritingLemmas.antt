@@ -41,7 +41,7 @@ width_is i greatest number xs full e f = ap bit_length (e ∙ f ∙ ap (fold max
 pub width_holds : (i greatest most : ℕ) (xs : List ℕ) → length xs ≤ i → greatest < most → ((k : ℕ) → k < i → get_or xs k 0 ≤ greatest) → All (λ v. v < most) xs
 width_holds i greatest most xs full h bound = λ k d there. rw (get_or_default_zero xs k d there) (omega (arith, bound k (omega arith)))
 
-greatest-lt : (most a : ℕ) (xs : List ℕ) → a < most → All (λ v. v < most) xs → fold max a xs < most
+pub greatest-lt : (most a : ℕ) (xs : List ℕ) → a < most → All (λ v. v < most) xs → fold max a xs < most
 greatest-lt most a [] h small = h
 greatest-lt most a (x ∷ xs) h small = greatest-lt most (max a x) xs (omega (arith, All-head (λ v. v < most) x xs small)) (All-tail (λ v. v < most) x xs small)
 

@@ -1,5 +1,5 @@
 -- The limits of the loop filter, a number below 128 for each quantiser index (Theora I, 6.4.1).
-use Rattle.std.specs.Prelude.{ℕ, ◌<◌, max, Bool, List, ◌++◌, fold, Result}
+use Rattle.std.specs.Prelude.{◌≡◌, ℕ, ◌<◌, max, Bool, List, ◌++◌, length, fold, Result}
 use Rattle.std.specs.List.{All}
 use Rattle.vid_base.specs.declared.fault.PacketFault.{PacketFault}
 use Rattle.vid_base.specs.Arithmetic.{bit_length}
@@ -10,6 +10,11 @@ use Rattle.vid_base.specs.Reading.{field, ◌>>=◌}
 -- numbers of 7 bits at most
 abbrev pub AreLimits : List ℕ → Type 0
 AreLimits numbers = All (λ v. v < 128) numbers
+
+-- limits that a setup header can say: one for each quantiser index
+pub record IsLimits (numbers : List ℕ) : Type 0 where
+  pub count : length numbers ≡ 64
+  pub small : AreLimits numbers
 
 -- the least width in bits that holds each of these numbers: 0 where all are 0
 unfoldable pub width_of : List ℕ → ℕ

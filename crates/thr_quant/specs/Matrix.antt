@@ -4,9 +4,20 @@ use Rattle.std.specs.Prelude.{ℕ, ◌+◌, ◌-◌, ◌*◌, ◌/◌, ◌==◌,
 use Rattle.std.specs.List.{range_with_len}
 use Rattle.std.specs.Option.{option_map_or}
 use Rattle.thr_quant.specs.declared.ranges.Range.{Range}
-pub use Rattle.thr_quant.specs.declared.matrix.Stretch.{Stretch}
+use Rattle.thr_quant.specs.declared.matrix.Stretch.{Stretch as Held}
 use Rattle.thr_quant.specs.Ranges.{Ranges}
 use Rattle.thr_quant.specs.Ramps.{Ramps}
+
+-- a range where it stands: the quantiser indices at its ends, and the base matrices there
+pub record Stretch : Type 0 where
+  pub first : ℕ
+  pub last : ℕ
+  pub from : ℕ
+  pub to : ℕ
+
+-- the same as the code holds it
+abbrev pub seen : Held → Stretch
+seen held = record { first = held.first; last = held.last; from = held.from; to = held.to }
 
 -- ranges where they stand, each with the quantiser indices and the base matrices at its ends: it begins where the one before ends
 unfoldable pub stretches : ℕ → ℕ → List Range → List Stretch

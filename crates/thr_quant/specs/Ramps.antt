@@ -1,6 +1,6 @@
 -- The quantisers of a stream: scales, base matrices, and the ranges of each kind of block in each plane (Theora I, 6.4.2).
 -- n counts base matrices. Ranges are those of intra blocks in Y, Cb and Cr, then those of inter blocks in Y, Cb and Cr.
-use Rattle.std.specs.Prelude.{ℕ, ◌+◌, ◌-◌, ◌==◌, max, Bool, true, false, List, [], ◌∷◌, ◌++◌, length, Option, Some, None, Result, Ok, Err, nat_lt, if◌then◌else◌}
+use Rattle.std.specs.Prelude.{◌≡◌, ℕ, ◌+◌, ◌-◌, ◌^◌, ◌<◌, ◌==◌, max, Bool, true, false, List, [], ◌∷◌, ◌++◌, length, Option, Some, None, Result, Ok, Err, nat_lt, if◌then◌else◌}
 use Rattle.std.specs.List.{All}
 use Rattle.vid_base.specs.declared.fault.PacketFault.{PacketFault}
 use Rattle.vid_base.specs.declared.fault.PacketFault.TheVariants.{Matrices}
@@ -8,7 +8,7 @@ use Rattle.vid_base.specs.Bits.{digits}
 use Rattle.vid_base.specs.Items.{items, all_digits}
 use Rattle.vid_base.specs.Reading.{field, ◌>>=◌}
 use Rattle.thr_quant.specs.Limits.{width_of}
-use Rattle.thr_quant.specs.Ranges.{Ranges, IsMatrixCount, NameMatrices, ranges_of, ranges_bits, same_ranges}
+use Rattle.thr_quant.specs.Ranges.{Ranges, AreWhole, IsMatrixCount, NameMatrices, ranges_of, ranges_bits, same_ranges}
 
 -- what a clause sees of the quantisers
 pub record Ramps : Type 0 where
@@ -23,6 +23,31 @@ pub record AreComplete (n : ℕ) (intra inter : List Ranges) : Type 0 where
   pub count : IsMatrixCount n
   pub intra_named : All (NameMatrices n) intra
   pub inter_named : All (NameMatrices n) inter
+
+-- scales that a setup header can say: one of 16 bits at most for each quantiser index
+pub record AreScales (numbers : List ℕ) : Type 0 where
+  pub count : length numbers ≡ 64
+  pub small : All (λ v. v < 2 ^ 16) numbers
+
+-- 64 bytes
+pub record IsBaseMatrix (matrix : List ℕ) : Type 0 where
+  pub count : length matrix ≡ 64
+  pub bytes : All (λ v. v < 2 ^ 8) matrix
+
+-- ranges of all planes, each leading from index 0 to 63 and naming some of n base matrices
+pub record AreOfPlanes (n : ℕ) (list : List Ranges) : Type 0 where
+  pub planes : length list ≡ 3
+  pub whole : All (λ ranges. AreWhole ranges.list) list
+  pub named : All (NameMatrices n) list
+
+-- quantisers that a setup header can say
+pub record IsRamps (ramps : Ramps) : Type 0 where
+  pub ac : AreScales ramps.ac
+  pub dc : AreScales ramps.dc
+  pub count : IsMatrixCount (length ramps.matrices)
+  pub matrices : All IsBaseMatrix ramps.matrices
+  pub intra : AreOfPlanes (length ramps.matrices) ramps.intra
+  pub inter : AreOfPlanes (length ramps.matrices) ramps.inter
 
 -- NBITS less 1 in 4 bits, and 64 scales of so many bits
 unfoldable pub scales_of : List Bool → Result (List ℕ × List Bool) PacketFault
@@ -39,6 +64,19 @@ unfoldable pub matrices_of : List Bool → Result (List (List ℕ) × List Bool)
 matrices_of bits = do
   count ← field 9 bits
   if nat_lt 384 (count.0 + 1) then Err Matrices else items base_matrix_of (count.0 + 1) count.1
+
+-- the number of base matrices, where it is not too great
+unfoldable pub matrices_front : List Bool → Result (ℕ × List Bool) PacketFault
+matrices_front bits = do
+  count ← field 9 bits
+  if nat_lt 384 (count.0 + 1) then Err Matrices else Ok count
+
+-- what stands before the base matrices: the scales, and the number of base matrices. No memory is taken before
+unfoldable pub ramps_front : List Bool → Result (ℕ × List Bool) PacketFault
+ramps_front bits = do
+  ac ← scales_of bits
+  dc ← scales_of ac.1
+  matrices_front dc.1
 
 -- a copy: of the pair before, or, where RPQR is 1, of the intra ranges of the same plane; RPQR is read for inter blocks alone
 unfoldable pub copy_of : Ranges → Option Ranges → List Bool → Result (Ranges × List Bool) PacketFault

@@ -5,6 +5,7 @@
 //! matrix of a quantiser index.
 #![tactic(auto)]
 
+mod laws;
 mod limits;
 mod matrix;
 mod numbers;
@@ -12,6 +13,7 @@ mod ramps;
 mod ranges;
 mod write;
 
+pub use laws::{limits_of_a_header, quantisers_of_a_header};
 pub use limits::{Limits, read_limits};
 pub use ramps::{Ramps, read_ramps};
 pub use ranges::{Range, Ranges};

@@ -1,5 +1,5 @@
 // Limits of the loop filter (Theora I, 6.4.1).
-ghost use Rattle.vid_base.specs.Reading.{GivesOrEnded};
+ghost use Rattle.vid_base.specs.Reading.{GivesOrEnded, SameEnd};
 ghost use Rattle.thr_quant.specs.Limits.{AreLimits, limits_of};
 
 use crate::numbers::read_bytes;
@@ -16,6 +16,7 @@ pub struct Limits {
 #[tactic(auto, unfolding(crate::specs::Limits::limits_of))]
 pub fn read_limits(r: &mut BitReader) -> Result<Limits, Ended>
     ensures value { GivesOrEnded (λ limits. limits.of) result r.new.left (limits_of r.old.left) }
+    ensures end { SameEnd r.old r.new }
 {
     let width = r.take(3)?;
     let of = read_bytes(r, width)?;

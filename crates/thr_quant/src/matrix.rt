@@ -2,8 +2,7 @@
 ghost use Rattle.std.specs.Prelude.{◌≡◌, ℕ, ◌<◌, ◌≤◌, IsTrue, Contains, find, length, slice_index};
 ghost use Rattle.std.specs.List.{All};
 ghost use Rattle.thr_quant.specs.Ranges.{NameMatrices};
-ghost use Rattle.thr_quant.specs.declared.matrix.Stretch.{Stretch};
-ghost use Rattle.thr_quant.specs.Matrix.{between, holds, least, matrix_at, matrix_on, ranges_at, scale_at, scaled, stretches_of};
+ghost use Rattle.thr_quant.specs.Matrix.{between, holds, least, matrix_at, matrix_on, ranges_at, scale_at, scaled, seen, stretches_of, Stretch as StretchSeen};
 
 use crate::{Ramps, Ranges};
 
@@ -22,7 +21,7 @@ struct Stretch {
 // The first range that holds a quantiser index.
 fn stretch_at(ranges: &Ranges, qi: u8) -> Stretch
     requires { qi < 64 }
-    ensures value { find (holds qi) (stretches_of ranges.now) ≡ Some result }
+    ensures value { find (holds qi) (stretches_of ranges.now) ≡ Some (seen result) }
     ensures holds { (result.first ≤ qi) × (qi ≤ result.last) }
     ensures size { (result.first < result.last) × (result.last ≤ 63) }
     ensures named { (n : ℕ) → NameMatrices n ranges.now → (result.from < n) × (result.to < n) }
@@ -52,7 +51,7 @@ fn stretch_at(ranges: &Ranges, qi: u8) -> Stretch
 fn value_between(stretch: Stretch, qi: u8, a: u8, b: u8) -> u32
     requires holds { (stretch.first ≤ qi) × (qi ≤ stretch.last) }
     requires size { (stretch.first < stretch.last) × (stretch.last ≤ 63) }
-    ensures value { result ≡ between stretch qi a b }
+    ensures value { result ≡ between (seen stretch) qi a b }
     ensures small { result ≤ 32161 }
 {
     let to_last = u32::from(stretch.last - qi);
@@ -118,7 +117,7 @@ impl Ramps {
         requires holds { (stretch.first ≤ qi) × (qi ≤ stretch.last) }
         requires size { (stretch.first < stretch.last) × (stretch.last ≤ 63) }
         requires named { (stretch.from < length self.now.matrices) × (stretch.to < length self.now.matrices) }
-        ensures value { result ≡ matrix_on self.now qti qi stretch }
+        ensures value { result ≡ matrix_on self.now qti qi (seen stretch) }
     {
         let from = &self.matrices[usize::from(stretch.from)];
         let to = &self.matrices[usize::from(stretch.to)];
@@ -139,7 +138,7 @@ impl Ramps {
         requires index { qi < 64 }
         ensures value { result ≡ matrix_at self.now qti pli qi }
         // Where two ranges meet both give the same.
-        ensures every_range { (stretch : Stretch) → Contains (stretches_of (ranges_at self.now qti pli)) stretch
+        ensures every_range { (stretch : StretchSeen) → Contains (stretches_of (ranges_at self.now qti pli)) stretch
             → IsTrue (holds qi stretch) → result ≡ matrix_on self.now qti qi stretch }
         ensures entries { All (λ v. (8 ≤ v) × (v ≤ 4096)) result }
         ensures first { 16 ≤ slice_index result 0 }

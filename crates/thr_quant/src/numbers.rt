@@ -2,7 +2,7 @@
 ghost use Rattle.std.specs.Prelude.{◌≡◌, ℕ, ◌^◌, ◌<◌, ◌≤◌, ◌++◌, length, Bool, List, OnOk, OnErr, IfOk};
 ghost use Rattle.std.specs.List.{All};
 ghost use Rattle.vid_base.specs.Items.{items, all_digits};
-ghost use Rattle.vid_base.specs.Reading.{GivesOrEnded, field};
+ghost use Rattle.vid_base.specs.Reading.{GivesOrEnded, SameEnd, field};
 ghost use Rattle.thr_quant.specs.Limits.{width_of};
 
 use vid_base::{BitReader, BitWriter, Ended, NoMem, ilog};
@@ -12,6 +12,7 @@ pub fn read_bytes(r: &mut BitReader, width: u32) -> Result<[u8; 64], Ended>
     requires { width ≤ 8 }
     ensures value { GivesOrEnded (λ numbers. numbers) result r.new.left (items (field width) 64 r.old.left) }
     ensures small { IfOk result (λ numbers. All (λ v. v < 2 ^ width) numbers) }
+    ensures end { SameEnd r.old r.new }
 {
     let mut numbers = [0; 64];
     for number in numbers.iter_mut() {
@@ -24,6 +25,7 @@ pub fn read_bytes(r: &mut BitReader, width: u32) -> Result<[u8; 64], Ended>
 pub fn read_words(r: &mut BitReader, width: u32) -> Result<[u16; 64], Ended>
     requires { width ≤ 16 }
     ensures value { GivesOrEnded (λ numbers. numbers) result r.new.left (items (field width) 64 r.old.left) }
+    ensures end { SameEnd r.old r.new }
 {
     let mut numbers = [0; 64];
     for number in numbers.iter_mut() {

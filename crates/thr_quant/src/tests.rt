@@ -147,48 +147,179 @@ fn limits_take_the_least_width(rt: HostRuntime) {
     assert!(rt; none.as_slice() == [0].as_slice());
     let five_bits = limits_packet(&rt, rt.alloc(), falling);
     assert_eq!(rt; five_bits.len(), 41);
+    let greatest = limits_packet(&rt, rt.alloc(), [127; 64]);
+    assert_eq!(rt; greatest.len(), 57);
+}
+
+// Scales of 1 bit, so many base matrices of zeros, and fields behind them.
+fn quantisers(rt: &impl Abort, alloc: Global, count: u32, fields: &[(u32, u32)]) -> Vec<u8> {
+    let mut w = BitWriter::new(alloc);
+    put(rt, &mut w, 2, &[(0, 4), (0, 32), (0, 32)]);
+    assert!(rt; 0 < count && count <= 384);
+    put(rt, &mut w, 1, &[(count - 1, 9)]);
+    put(rt, &mut w, 64 * count, &[(0, 8)]);
+    put(rt, &mut w, 1, fields);
+    w.finish()
+}
+
+// How quantisers of these bytes are refused.
+fn fault_of(rt: &impl Abort, alloc: Global, bytes: &[u8], name: &str) -> PacketFault {
+    match read_ramps(alloc, &mut BitReader::new(bytes)) {
+        Err(Refusal::Bad(fault)) => fault,
+        _ => panic!(rt; "{name} is not refused"),
+    }
 }
 
 #[test]
-fn the_first_fault_of_quantisers_is_answered(rt: HostRuntime) {
-    let rows: [(&str, u32, &[(u32, u32)], PacketFault); 6] = [
-        ("385 matrices", 384, &[], PacketFault::Matrices),
+fn an_index_that_names_no_matrix_is_answered_wherever_it_stands(rt: HostRuntime) {
+    // The ranges of intra Y, and the two copies behind them.
+    let rows: [(&str, u32, &[(u32, u32)]); 9] = [
+        ("the start of intra Y", 3, &[(3, 2)]),
+        ("the first range's end", 3, &[(0, 2), (62, 6), (3, 2)]),
         (
-            "384 matrices, and no more bits",
-            383,
-            &[],
-            PacketFault::Ended,
+            "the last range's end",
+            3,
+            &[(0, 2), (61, 6), (2, 2), (3, 2)],
+        ),
+        ("behind a range of 64 steps", 3, &[(0, 2), (63, 6), (3, 2)]),
+        ("5 of 5", 5, &[(5, 3)]),
+        ("299 of 299", 299, &[(0, 9), (62, 6), (299, 9)]),
+        (
+            "the start of intra Cr",
+            3,
+            &[(0, 2), (62, 6), (0, 2), (0, 1), (1, 1), (3, 2)],
         ),
         (
-            "index 3 of 3 matrices",
-            2,
-            &[(3, 2)],
-            PacketFault::MatrixIndex,
+            "the start of inter Y",
+            3,
+            &[(0, 2), (62, 6), (0, 2), (0, 2), (1, 1), (3, 2)],
         ),
-        ("a range of 64 steps", 0, &[(63, 6)], PacketFault::Ramp),
         (
-            "a range of 64 steps, and a bad index",
-            2,
-            &[(0, 2), (63, 6), (3, 2)],
-            PacketFault::MatrixIndex,
+            "the last of inter Cr",
+            3,
+            &[
+                (0, 2),
+                (62, 6),
+                (0, 2),
+                (0, 6),
+                (1, 1),
+                (0, 2),
+                (62, 6),
+                (3, 2),
+            ],
         ),
+    ];
+    for (name, count, fields) in rows {
+        let bytes = quantisers(&rt, rt.alloc(), count, fields);
+        let fault = fault_of(&rt, rt.alloc(), &bytes, name);
+        assert_eq!(rt; fault, PacketFault::MatrixIndex, "{name}");
+    }
+}
+
+#[test]
+fn ranges_past_the_last_index_and_bits_that_end_are_answered(rt: HostRuntime) {
+    let rows: [(&str, u32, &[(u32, u32)], PacketFault); 7] = [
+        ("64 steps", 1, &[(63, 6)], PacketFault::Ramp),
         (
             "a second range that passes the end",
-            2,
+            3,
             &[(0, 2), (59, 6), (0, 2), (3, 2), (0, 2)],
             PacketFault::Ramp,
         ),
+        (
+            "64 steps in inter Cr",
+            1,
+            &[(62, 6), (0, 6), (1, 1), (63, 6)],
+            PacketFault::Ramp,
+        ),
+        ("no ranges", 384, &[], PacketFault::Ended),
+        ("no range", 384, &[(383, 9)], PacketFault::Ended),
+        (
+            "a range without its end",
+            299,
+            &[(9, 9), (9, 6)],
+            PacketFault::Ended,
+        ),
+        (
+            "no pair behind the second",
+            1,
+            &[(62, 6)],
+            PacketFault::Ended,
+        ),
     ];
-    for (name, less_one, fields, want) in rows {
+    for (name, count, fields, want) in rows {
+        let bytes = quantisers(&rt, rt.alloc(), count, fields);
+        assert_eq!(rt; fault_of(&rt, rt.alloc(), &bytes, name), want, "{name}");
+    }
+}
+
+#[test]
+fn scales_and_matrices_that_end_and_385_matrices_are_answered(rt: HostRuntime) {
+    let rows: [(&str, u32, &[(u32, u32)], PacketFault); 5] = [
+        ("no width", 0, &[], PacketFault::Ended),
+        (
+            "AC scales that end",
+            0,
+            &[(15, 4), (9, 32)],
+            PacketFault::Ended,
+        ),
+        (
+            "DC scales that end",
+            1,
+            &[(15, 4), (9, 32)],
+            PacketFault::Ended,
+        ),
+        ("385 matrices", 2, &[(384, 9)], PacketFault::Matrices),
+        ("384 matrices that end", 2, &[(383, 9)], PacketFault::Ended),
+    ];
+    for (name, scales, fields, want) in rows {
         let mut w = BitWriter::new(rt.alloc());
-        put(&rt, &mut w, 2, &[(0, 4), (0, 32), (0, 32)]);
-        put(&rt, &mut w, 1, &[(less_one, 9)]);
-        if less_one < 3 {
-            put(&rt, &mut w, 64 * (less_one + 1), &[(0, 8)]);
-        }
+        put(&rt, &mut w, scales, &[(0, 4), (0, 32), (0, 32)]);
         put(&rt, &mut w, 1, fields);
         let bytes = w.finish();
-        let refusal = read_ramps(rt.alloc(), &mut BitReader::new(&bytes)).err();
-        assert_eq!(rt; refusal, Some(Refusal::Bad(want)), "{name}");
+        assert_eq!(rt; fault_of(&rt, rt.alloc(), &bytes, name), want, "{name}");
+    }
+}
+
+// Scales of 65,535, so many base matrices whose indices have `width` bits, and six pairs that differ, each of 63 ranges.
+fn greatest(rt: &impl Abort, alloc: Global, count: u32, width: u32) -> Vec<u8> {
+    let mut w = BitWriter::new(alloc);
+    for _ in 0..2 {
+        put(rt, &mut w, 1, &[(15, 4)]);
+        put(rt, &mut w, 64, &[(65_535, 16)]);
+    }
+    assert!(rt; 3 < count && count <= 384 && width <= 9);
+    let last = count - 1;
+    put(rt, &mut w, 1, &[(last, 9)]);
+    put(rt, &mut w, 64 * count, &[(255, 8)]);
+    for pair in 0..6u32 {
+        if pair > 0 {
+            put(rt, &mut w, 1, &[(1, 1)]);
+        }
+        put(rt, &mut w, 1, &[(pair % 3, width)]);
+        let steps = [(31, 6), (16, 5), (8, 4), (4, 3), (2, 2), (1, 1)];
+        for (times, bits) in steps {
+            put(rt, &mut w, times, &[(0, bits), (last, width)]);
+        }
+        put(rt, &mut w, 1, &[(pair / 3, width)]);
+    }
+    w.finish()
+}
+
+#[test]
+fn the_greatest_quantisers_and_their_copy_are_written_as_they_were_read(rt: HostRuntime) {
+    for (count, width) in [(4, 2), (5, 3), (64, 6), (299, 9), (384, 9)] {
+        let bytes = greatest(&rt, rt.alloc(), count, width);
+        let Ok(ramps) = read_ramps(rt.alloc(), &mut BitReader::new(&bytes)) else {
+            panic!(&rt; "{count} matrices are not read")
+        };
+        let Ok(copy) = ramps.clone() else {
+            panic!(&rt; "{count} matrices are not copied")
+        };
+        for written in [ramps, copy] {
+            let mut w = BitWriter::new(rt.alloc());
+            assert_eq!(rt; write_ramps(&mut w, &written), Ok(()));
+            assert!(rt; w.finish().as_slice() == bytes.as_slice());
+        }
     }
 }

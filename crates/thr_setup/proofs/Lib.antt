@@ -1,2 +1,3 @@
-pub mod SetupLemmas
+pub mod PacketLemmas
 pub mod ImportLemmas
+pub mod SetupLemmas

@@ -1,14 +1,14 @@
 -- The setup header: which packets are one, what it says, and which bits are written for it (Theora I, 6.4.5).
-use Rattle.std.specs.Prelude.{◌≡◌, ℕ, Bool, true, List, ◌∷◌, ◌++◌, length, drop, Result, Ok, Err, IsOk, codes, nat_eq, if◌then◌else◌}
+use Rattle.std.specs.Prelude.{◌≡◌, ℕ, Bool, true, List, [], ◌∷◌, ◌++◌, length, drop, Result, Ok, Err, IsOk, codes, nat_eq, if◌then◌else◌}
 use Rattle.std.specs.List.{starts_with}
 use Rattle.vid_base.specs.declared.fault.PacketFault.{PacketFault}
 use Rattle.vid_base.specs.declared.fault.PacketFault.TheVariants.{NotSetup}
-use Rattle.vid_base.specs.Bits.{bits_of, zeros, to_byte}
+use Rattle.vid_base.specs.Bits.{bits_of, number, zeros, to_byte}
 use Rattle.vid_base.specs.Reading.{◌>>=◌}
-use Rattle.thr_quant.specs.Limits.{limits_of, limits_bits}
-use Rattle.thr_quant.specs.Ramps.{Ramps, ramps_of, ramps_bits}
+use Rattle.thr_quant.specs.Limits.{IsLimits, limits_of, limits_bits}
+use Rattle.thr_quant.specs.Ramps.{IsRamps, Ramps, ramps_of, ramps_bits}
 use Rattle.thr_huff.specs.CodeTree.{CodeTree}
-use Rattle.thr_huff.specs.Trees.{forest_at, forest_bits}
+use Rattle.thr_huff.specs.Trees.{IsForest, forest_at, forest_bits}
 use Rattle.thr_setup.specs.declared.setup.Setup.{Setup}
 
 -- what a setup header says: the limits of the loop filter, the quantisers, and 80 trees
@@ -16,6 +16,12 @@ pub record Contents : Type 0 where
   pub limits : List ℕ
   pub ramps : Ramps
   pub forest : List CodeTree
+
+-- what a setup header can say
+pub record IsSetup (contents : Contents) : Type 0 where
+  pub limits : IsLimits contents.limits
+  pub ramps : IsRamps contents.ramps
+  pub forest : IsForest contents.forest
 
 -- what a setup says
 abbrev pub contents : Setup → Contents
@@ -52,10 +58,11 @@ fields_bits contents = limits_bits contents.limits ++ ramps_bits contents.ramps 
 abbrev pub filled : List Bool → List Bool
 filled bits = bits ++ zeros (to_byte (length bits))
 
--- a packet as it is written: the name, and the fields filled to a byte
-unfoldable pub packet_bits : Contents → List Bool
-packet_bits contents = bits_of setup_name ++ filled (fields_bits contents)
+-- bits as bytes, eight at a time (Theora I, 5.2)
+unfoldable pub bytes_of : List Bool → List ℕ
+bytes_of (a ∷ b ∷ c ∷ d ∷ e ∷ f ∷ g ∷ h ∷ bits) = number (a ∷ b ∷ c ∷ d ∷ e ∷ f ∷ g ∷ h ∷ []) ∷ bytes_of bits
+bytes_of bits = []
 
--- the bytes that a list has behind those of another
-abbrev pub appended : List ℕ → List ℕ → List ℕ
-appended old new = drop (length old) new
+-- a packet as it is written: the name, and the fields filled to a byte
+unfoldable pub packet_of : Contents → List ℕ
+packet_of contents = setup_name ++ bytes_of (filled (fields_bits contents))

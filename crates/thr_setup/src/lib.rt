@@ -6,12 +6,14 @@
 #![tactic(auto)]
 
 mod import;
+mod laws;
 mod setup;
 mod tables;
 mod trees;
 mod write;
 
 pub use import::import_setup;
+pub use laws::setups_of_a_header;
 pub use setup::{Setup, read_setup};
 pub use write::write_setup;
 

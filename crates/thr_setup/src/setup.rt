@@ -4,7 +4,7 @@ ghost use Rattle.thr_quant.specs.Limits.{limits_of};
 ghost use Rattle.vid_base.specs.Reading.{GivesOrNoMem, Refuses};
 ghost use Rattle.thr_setup.specs.Setup.{HasLimits, contents, fields_of, setup_of};
 
-use std::alloc::Global;
+use std::alloc::{AllocError, Global};
 use thr_huff::{Forest, read_forest};
 use thr_quant::{Limits, Ramps, read_limits, read_ramps};
 use vid_base::{BitReader, PacketFault, Refusal};
@@ -18,6 +18,19 @@ pub struct Setup {
     pub limits: Limits,
     pub ramps: Ramps,
     pub forest: Forest,
+}
+
+/// A copy is equal, and has memory of its own.
+impl Clone for Setup {
+    ghost is_clone = { λ v w. w ≡ v };
+
+    fn clone(&self) -> Result<Self, AllocError> {
+        Ok(Setup {
+            limits: self.limits,
+            ramps: self.ramps.clone()?,
+            forest: self.forest.clone()?,
+        })
+    }
 }
 
 // Limits, quantisers and trees, in the order in which they stand.

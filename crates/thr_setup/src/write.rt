@@ -1,7 +1,7 @@
 // Writing a setup header (Theora I, 6.4.5).
 ghost use Rattle.std.specs.Prelude.{◌≡◌, ℕ, ◌+◌, ◌≤◌, ◌++◌, Bool, List, Ok, OnOk, OnErr, IfOk, length, vec_len, vec_capacity};
 ghost use Rattle.vid_base.specs.Bits.{bits_of};
-ghost use Rattle.thr_setup.specs.Setup.{appended, contents, fields_bits, fields_of, filled, packet_bits, setup_of};
+ghost use Rattle.thr_setup.specs.Setup.{bytes_of, contents, fields_bits, fields_of, filled, packet_of, setup_of};
 
 use crate::Setup;
 use crate::setup::SETUP_NAME;
@@ -37,6 +37,7 @@ fn add(out: &mut Vec<u8>, bytes: &[u8])
     ensures items { out.new.items ≡ out.old.items ++ bytes.now }
     ensures len { vec_len out.new ≡ vec_len out.old + length bytes.now }
     ensures capacity { vec_capacity out.old ≤ vec_capacity out.new }
+    ensures packed { bytes_of (bits_of bytes.now) ≡ bytes.now }
 {
     let _ = out.extend_from_slice(bytes);
 }
@@ -44,10 +45,9 @@ fn add(out: &mut Vec<u8>, bytes: &[u8])
 /// Appends the packet of a setup header that says this, its last byte filled with 0 bits (Theora I, 6.4.5). After `NoMem` the
 /// bytes are those that were there.
 pub fn write_setup(setup: &Setup, out: &mut Vec<u8>) -> Result<(), NoMem>
-    ensures kept { OnOk result (out.new.items ≡ out.old.items ++ appended out.old.items out.new.items) }
-    ensures written { OnOk result (bits_of (appended out.old.items out.new.items) ≡ packet_bits (contents setup.now)) }
+    ensures written { OnOk result (out.new.items ≡ out.old.items ++ packet_of (contents setup.now)) }
     ensures memory { OnErr result (out.new.items ≡ out.old.items) }
-    ensures reads_back { OnOk result ((rest : List ℕ) → setup_of (appended out.old.items out.new.items ++ rest) ≡ Ok (contents setup.now)) }
+    ensures reads_back { OnOk result ((rest : List ℕ) → setup_of (packet_of (contents setup.now) ++ rest) ≡ Ok (contents setup.now)) }
 {
     let fields = field_bytes(*out.allocator(), setup)?;
     out.try_reserve(SETUP_NAME.len() + fields.len())?;

@@ -7,3 +7,4 @@ pub mod ArithmeticLemmas
 pub mod FrontLemmas
 pub mod ReadingLemmas
 pub mod WordLemmas
+pub mod SoundLemmas

@@ -13,6 +13,7 @@ loop-number-preserved c = record {
   long = search rules;
   read = fields_step c.args.width 64 c.loop-number.number-index c.in_ok-number.field-0 c.loop-number.number-items c.loop-number.r.left c.take.new.self.left _ c.loop-number-test.true c.loop-number.invariant.long c.in_ok-number.ensures.value c.loop-number.invariant.read;
   small = small_step (2 ^ c.args.width) c.loop-number.number-index c.in_ok-number.field-0 c.loop-number.number-items (omega arith) c.in_ok-number.ensures.small c.loop-number.invariant.small;
+  end = search rules;
 }
 
 pub returns-clause-value : goal.returns-clause-value

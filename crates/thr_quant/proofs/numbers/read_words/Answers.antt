@@ -3,16 +3,17 @@ use Rattle.std.proofs.lemmas.Result.{err_from_is_err_and}
 use Rattle.thr_quant.proofs.FieldLemmas.{fields_step, fields_ended, fields_end}
 use Rattle.thr_quant.proofs.numbers.read_words.Goals as goal
 
-pub returns-in_err-number : goal.returns-in_err-number
-returns-in_err-number c =
+pub returns-in_err-number-clause-value : goal.returns-in_err-number-clause-value
+returns-in_err-number-clause-value c =
     let p = err_from_is_err_and c.from_residual.result c.from_residual.ensures.1 in
-    rw (p.1) (record { value = fields_ended c.args.width 64 c.loop-number.number-index _ c.loop-number.r.left _ c.loop-number-test.true c.in_err-number.ensures.value c.loop-number.invariant.read })
+    rw (p.1) (fields_ended c.args.width 64 c.loop-number.number-index _ c.loop-number.r.left _ c.loop-number-test.true c.in_err-number.ensures.value c.loop-number.invariant.read)
 
 pub loop-number-preserved : goal.loop-number-preserved
 loop-number-preserved c = record {
   long = search rules;
   read = fields_step c.args.width 64 c.loop-number.number-index c.in_ok-number.field-0 c.loop-number.number-items c.loop-number.r.left c.take.new.self.left _ c.loop-number-test.true c.loop-number.invariant.long c.in_ok-number.ensures.value c.loop-number.invariant.read;
+  end = search rules;
 }
 
-pub returns : goal.returns
-returns c = record { value = fields_end c.args.width 64 c.loop-number.number-index c.loop-number.number-items c.loop-number.r.left _ (omega arith) c.loop-number.invariant.long c.loop-number.invariant.read }
+pub returns-clause-value : goal.returns-clause-value
+returns-clause-value c = fields_end c.args.width 64 c.loop-number.number-index c.loop-number.number-items c.loop-number.r.left _ (omega arith) c.loop-number.invariant.long c.loop-number.invariant.read

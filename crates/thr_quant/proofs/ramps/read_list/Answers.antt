@@ -1,4 +1,4 @@
-use Rattle.std.proofs.Common.{arith, ◌∙◌, sym}
+use Rattle.std.proofs.Common.{rules, arith, ◌∙◌, sym}
 use Rattle.std.proofs.lemmas.Result.{err_from_is_err_and}
 use Rattle.vid_base.proofs.ItemLemmas.{items_step, items_fault, items_end}
 use Rattle.thr_quant.specs.Ramps.{base_matrix_of}
@@ -15,6 +15,7 @@ unfolding base_matrix_of
 loop-preserved c = record {
   count = omega (arith, c.in_ok-push.ensures.len);
   read = rw c.in_ok-push.ensures.items (items_step base_matrix_of c.loop.list.items c.args.count c.loop.counter c.in_ok-matrix.matrix c.loop.r.left c.read_bytes.new.r.left c.loop-test.true c.in_ok-matrix.ensures.value ∙ c.loop.invariant.read);
+  end = search rules;
 }
 
 pub returns-clause-value : goal.returns-clause-value

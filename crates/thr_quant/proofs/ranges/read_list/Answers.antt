@@ -1,4 +1,4 @@
-use Rattle.std.proofs.Common.{arith, ◌<◌, ◌∙◌, sym}
+use Rattle.std.proofs.Common.{rules, arith, ◌<◌, ◌∙◌, sym}
 use Rattle.std.proofs.lemmas.List.Elements.{All-push}
 use Rattle.std.proofs.lemmas.List.Sums.{sum_by_push}
 use Rattle.std.proofs.lemmas.Result.{err_from_is_err_and}
@@ -18,6 +18,7 @@ steps-preserved c = record {
   room = omega (arith, c.push.ensures.len, c.in_ok-range.ensures.size.0);
   named = rw c.push.ensures.items (All-push (λ (range : Range). range.next < c.args.count) _ _ c.steps.invariant.named c.in_ok-range.ensures.named);
   read = ranges_step c.args.count c.steps.left c.steps.list.items c.push.new.self.items c.in_ok-range.range c.steps.r.left c.read_range.new.r.left c.push.ensures.items c.steps-test.true c.steps.invariant.room c.in_ok-range.ensures.value ∙ c.steps.invariant.read;
+  end = search rules;
 }
 
 pub returns-clause-value : goal.returns-clause-value

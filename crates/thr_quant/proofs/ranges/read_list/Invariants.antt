@@ -1,4 +1,5 @@
 use Rattle.std.proofs.Common.{◌≡◌, ◌+◌, ◌-◌, ◌<◌, ◌≤◌, length, All, sum_by}
+use Rattle.vid_base.specs.Reading.{SameEnd}
 use Rattle.vid_base.specs.Items.{with_front}
 use Rattle.thr_quant.specs.Ranges.{list_of}
 use Rattle.thr_quant.proofs.ranges.read_list.Given as goal
@@ -11,6 +12,7 @@ invariant-steps l = record {
   room : length l.list.items + l.left ≤ 63;
   named : All (λ range. range.next < l.count) l.list.items;
   read : with_front l.list.items (list_of (63 - length l.list.items) l.count l.left l.r.left) ≡ list_of 63 l.count 63 l.fn.r.left;
+  end : SameEnd l.fn.r l.r;
 }
 
 abbrev pub decreases-steps : goal.decreases-steps

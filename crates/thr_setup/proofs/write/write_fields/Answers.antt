@@ -1,6 +1,6 @@
 use Rattle.std.proofs.lemmas.Result.{on_ok_weaker}
 use Rattle.thr_setup.specs.Setup.{contents}
-use Rattle.thr_setup.proofs.SetupLemmas.{fields_of-fields_bits}
+use Rattle.thr_setup.proofs.PacketLemmas.{fields_of-fields_bits}
 use Rattle.thr_setup.proofs.write.write_fields.Goals as goal
 
 pub returns-clause-reads_back : goal.returns-clause-reads_back
