@@ -13,7 +13,8 @@ use Rattle.vid_geom.specs.Squares.{joined}
 use Rattle.vid_geom.specs.CodedOrder.{order_of, superblocks}
 use Rattle.vid_geom.proofs.ListLemmas.{filter-map, joined-append}
 use Rattle.thr_flags.specs.declared.runs.RunCode.TheVariants.{Long, Short}
-use Rattle.thr_flags.specs.Writing.{AddsString, ReadsBack}
+use Rattle.vid_base.specs.Writing.{ReadsBack}
+use Rattle.thr_flags.specs.Writing.{AddsString}
 use Rattle.thr_flags.specs.Flags.{count_whole, flags_of, partial_blocks, sizes_of, spread}
 use Rattle.thr_flags.specs.WrittenFlags.{fully_in, is_partial, partly_in, parts, parts_of, single_in}
 use Rattle.thr_flags.proofs.FlagLemmas.{get_or-lengths, length-sizes_of, size_at}

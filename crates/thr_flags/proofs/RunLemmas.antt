@@ -7,7 +7,8 @@ use Rattle.vid_base.specs.declared.fault.PacketFault.{PacketFault}
 use Rattle.vid_base.specs.declared.fault.PacketFault.TheVariants.{RunTooLong}
 use Rattle.vid_base.specs.Items.{with_front}
 use Rattle.thr_flags.specs.declared.runs.RunCode.{RunCode}
-use Rattle.thr_flags.specs.RunStrings.{next_value, one_bit, run_of, run_on, run_string, values}
+use Rattle.vid_base.specs.Reading.{one_bit}
+use Rattle.thr_flags.specs.RunStrings.{next_value, run_of, run_on, run_string, values}
 
 -- what a string reads
 abbrev pub Read : Type 0

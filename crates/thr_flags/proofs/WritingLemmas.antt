@@ -10,8 +10,10 @@ use Rattle.vid_base.proofs.NumberLemmas.{take-digits}
 use Rattle.thr_flags.specs.declared.runs.RunCode.{RunCode}
 use Rattle.thr_flags.specs.declared.writing.Run.{Run}
 use Rattle.thr_flags.specs.declared.runs.RunCode.TheVariants.{Short}
-use Rattle.thr_flags.specs.RunStrings.{longest, HasRunsUpTo, next_value, one_bit, run_from, run_of, run_on, run_string, values}
-use Rattle.thr_flags.specs.Writing.{Fits, Grows, Holds, IsOpen, IsRun, ReadsBack}
+use Rattle.vid_base.specs.Reading.{one_bit}
+use Rattle.thr_flags.specs.RunStrings.{longest, HasRunsUpTo, next_value, run_from, run_of, run_on, run_string, values}
+use Rattle.vid_base.specs.Writing.{Grows, ReadsBack}
+use Rattle.thr_flags.specs.Writing.{Fits, Holds, IsOpen, IsRun}
 use Rattle.thr_flags.proofs.RunLemmas.{values_run, with_both, with_nothing}
 
 -- what follows from a fact of an `Ok`

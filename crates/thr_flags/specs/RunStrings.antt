@@ -1,16 +1,11 @@
 -- Run strings: truth values coded by the lengths of their runs (Theora I, 7.2). n counts values, v is a value.
 use Rattle.std.specs.Prelude.{ℕ, zero, suc, ◌+◌, ◌-◌, ◌≢◌, ◌==◌, Bool, false, not, List, [], ◌∷◌, take, drop, replicate, Result, Ok, Err, if◌then◌else◌}
 use Rattle.vid_base.specs.declared.fault.PacketFault.{PacketFault}
-use Rattle.vid_base.specs.declared.fault.PacketFault.TheVariants.{Ended, RunTooLong}
-use Rattle.vid_base.specs.Reading.{◌>>=◌, field}
+use Rattle.vid_base.specs.declared.fault.PacketFault.TheVariants.{RunTooLong}
+use Rattle.vid_base.specs.Reading.{◌>>=◌, field, one_bit}
 use Rattle.vid_base.specs.Items.{with_front}
 use Rattle.thr_flags.specs.declared.runs.RunCode.{RunCode}
 use Rattle.thr_flags.specs.declared.runs.RunCode.TheVariants.{Long, Short}
-
--- a bit as a truth value
-unfoldable pub one_bit : List Bool → Result (Bool × List Bool) PacketFault
-one_bit [] = Err Ended
-one_bit (v ∷ bits) = Ok (v, bits)
 
 -- a row of a table of runs: its shortest run, and how many bits say how much longer a run is
 abbrev pub run_from : ℕ × ℕ → List Bool → Result (ℕ × List Bool) PacketFault

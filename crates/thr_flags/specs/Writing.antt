@@ -1,21 +1,11 @@
 -- What a writer adds to the bits that were there (own). old are the bits before a call, new those after it.
-use Rattle.std.specs.Prelude.{◌≡◌, ◌<◌, ◌≤◌, ◌+◌, ℕ, suc, Bool, List, [], ◌++◌, length, replicate, Option, Some, None, Result, Ok}
-use Rattle.vid_base.specs.declared.fault.PacketFault.{PacketFault}
+use Rattle.std.specs.Prelude.{◌≡◌, ◌<◌, ◌≤◌, ◌+◌, ℕ, suc, Bool, List, [], ◌++◌, length, replicate, Option, Some, None}
 use Rattle.vid_base.specs.Items.{with_front}
+use Rattle.vid_base.specs.Writing.{ReadsBack}
 use Rattle.thr_flags.specs.declared.runs.RunCode.{RunCode}
 use Rattle.thr_flags.specs.declared.runs.RunCode.TheVariants.{Short}
 use Rattle.thr_flags.specs.declared.writing.Run.{Run}
 use Rattle.thr_flags.specs.RunStrings.{longest, run_on, run_string}
-
--- bits were only added
-abbrev pub Grows : List Bool → List Bool → Type 0
-Grows old new = (more : List Bool) × (new ≡ old ++ more)
-
--- the bits that were added are read as the value, whatever follows them, and what follows is left
-pub record ReadsBack {A : Type 0} (read : List Bool → Result (A × List Bool) PacketFault) (value : A) (old new : List Bool) : Type 0 where
-  pub more : List Bool
-  pub added : new ≡ old ++ more
-  pub reads : (rest : List Bool) → read (more ++ rest) ≡ Ok (value, rest)
 
 -- a run string of these values was added
 abbrev pub AddsString : RunCode → List Bool → List Bool → List Bool → Type 0

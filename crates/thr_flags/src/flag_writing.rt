@@ -4,7 +4,8 @@ ghost use Rattle.std.specs.List.{list_any};
 ghost use Rattle.vid_geom.specs.CodedOrder.{order_of, superblocks};
 ghost use Rattle.thr_flags.specs.Flags.{flags_of};
 ghost use Rattle.thr_flags.specs.WrittenFlags.{fully_in, is_partial, partly_in, parts_of, single_in};
-ghost use Rattle.thr_flags.specs.Writing.{AddsString, Grows, ReadsBack};
+ghost use Rattle.vid_base.specs.Writing.{Grows, ReadsBack};
+ghost use Rattle.thr_flags.specs.Writing.{AddsString};
 ghost use Rattle.thr_flags.specs.declared.runs.RunCode.TheVariants.{Long, Short};
 
 use crate::runs::RunCode;

@@ -1,7 +1,8 @@
 // Run strings are written (Theora I, 7.2).
 ghost use Rattle.std.specs.Prelude.{◌≡◌, ◌≤◌, ◌<◌, ◌++◌, ◌∷◌, [], Bool, List, not, false, length, IfOk, IfSome, OnErr, OnOk, Some};
 ghost use Rattle.thr_flags.specs.RunStrings.{HasRunsUpTo, is_renewed, long_string, short_string};
-ghost use Rattle.thr_flags.specs.Writing.{AddsString, Fits, Grows, Holds, IsRun, ReadsBack};
+ghost use Rattle.vid_base.specs.Writing.{AddsBit, Grows, ReadsBack};
+ghost use Rattle.thr_flags.specs.Writing.{AddsString, Fits, Holds, IsRun};
 ghost use Rattle.thr_flags.specs.declared.runs.RunCode.{RunCode};
 ghost use Rattle.thr_flags.specs.declared.runs.RunCode.TheVariants.{Short};
 
@@ -17,7 +18,7 @@ pub(crate) struct Run {
 
 // One bit.
 fn put_bit(w: &mut BitWriter, bit: bool) -> Result<(), NoMem>
-    ensures written { OnOk result (w.new ≡ w.old ++ bit ∷ []) }
+    ensures written { OnOk result (AddsBit bit w.old w.new) }
     ensures memory { OnErr result (Grows w.old w.new) }
 {
     w.put(u32::from(bit), 1)

@@ -1,4 +1,5 @@
 use Rattle.std.proofs.Common.{◌≡◌, ◌≤◌, ◌-◌, ◌^◌, ◌<◌, length, take}
+use Rattle.vid_base.specs.Reading.{SameEnd}
 use Rattle.vid_base.specs.Items.{with_front}
 use Rattle.thr_flags.specs.RunStrings.{values}
 use Rattle.thr_flags.proofs.reading.read_runs.Given as goal
@@ -11,6 +12,7 @@ invariant-runs l = record {
   within : l.at ≤ length l.into;
   small : l.run < 2 ^ 16;
   some : 0 < l.run;
+  end : SameEnd l.fn.r l.r;
 }
 
 abbrev pub decreases-runs : goal.decreases-runs

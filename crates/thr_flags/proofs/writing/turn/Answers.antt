@@ -1,6 +1,7 @@
 use Rattle.std.proofs.Common.{rules, ◌≡◌, ◌∷◌, [], false, true, not, sym, refl}
 use Rattle.std.proofs.lemmas.List.{append-nil}
-use Rattle.thr_flags.specs.RunStrings.{is_renewed, next_value, one_bit}
+use Rattle.vid_base.specs.Reading.{one_bit}
+use Rattle.thr_flags.specs.RunStrings.{is_renewed, next_value}
 use Rattle.thr_flags.proofs.WritingLemmas.{open_next}
 use Rattle.thr_flags.proofs.writing.turn.Goals as goal
 
