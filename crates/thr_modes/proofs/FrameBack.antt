@@ -21,7 +21,8 @@ use Rattle.thr_modes.specs.declared.component.VectorCoding.{VectorCoding}
 use Rattle.thr_modes.specs.declared.component.VectorCoding.TheVariants.{Fixed}
 use Rattle.thr_modes.specs.InOrder.{Adds}
 use Rattle.thr_modes.specs.LumaFlags.{macro_flags}
-use Rattle.thr_modes.specs.Vectors.{Offset, offset_of, still, one_bit}
+use Rattle.vid_base.specs.Reading.{one_bit}
+use Rattle.thr_modes.specs.Vectors.{Offset, offset_of, still}
 use Rattle.thr_modes.specs.Motion.{Motion, block_vectors, empty, motions, by_block, coded_vectors, vector_coding, vectors_of}
 use Rattle.thr_modes.specs.WrittenVectors.{motions_code, luma_vectors, macro_vectors}
 use Rattle.thr_modes.proofs.AreaLemmas.{HasSizes, sizes}

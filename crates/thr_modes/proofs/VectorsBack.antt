@@ -13,7 +13,8 @@ use Rattle.vid_base.proofs.NumberLemmas.{take-digits}
 use Rattle.thr_modes.specs.declared.component.VectorCoding.{VectorCoding}
 use Rattle.thr_modes.specs.declared.component.VectorCoding.TheVariants.{Fixed}
 use Rattle.thr_modes.specs.InOrder.{each}
-use Rattle.thr_modes.specs.Vectors.{Offset, IsComponent, still, one_bit, signed, sized, component, vector_in}
+use Rattle.vid_base.specs.Reading.{one_bit}
+use Rattle.thr_modes.specs.Vectors.{Offset, IsComponent, still, signed, sized, component, vector_in}
 use Rattle.thr_modes.specs.Motion.{Motion, Memory, same_motion, own_motion, after, exchanged, own_vector, last_coded, motion_in, motions}
 use Rattle.thr_modes.specs.WrittenVectors.{component_code, vector_code, own_codes, motion_code, motions_code}
 use Rattle.thr_modes.proofs.OkLemmas.{any_ok}

@@ -5,14 +5,14 @@ use Rattle.std.specs.List.{fold, flat_map, position_or_len}
 use Rattle.vid_base.specs.declared.shape.Shape.{Shape}
 use Rattle.vid_base.specs.declared.fault.PacketFault.{PacketFault}
 use Rattle.vid_base.specs.Arithmetic.{rounded}
-use Rattle.vid_base.specs.Reading.{◌>>=◌}
+use Rattle.vid_base.specs.Reading.{◌>>=◌, one_bit}
 use Rattle.vid_geom.specs.CodedOrder.{order_of, same_block}
 use Rattle.vid_geom.specs.MacroBlocks.{columns_in, rows_in, macro_order}
 use Rattle.thr_modes.specs.declared.component.VectorCoding.{VectorCoding}
 use Rattle.thr_modes.specs.declared.component.VectorCoding.TheVariants.{Prefixed, Fixed}
 use Rattle.thr_modes.specs.InOrder.{each}
 use Rattle.thr_modes.specs.LumaFlags.{macro_flags}
-use Rattle.thr_modes.specs.Vectors.{Offset, still, one_bit, vector_in}
+use Rattle.thr_modes.specs.Vectors.{Offset, still, vector_in}
 
 -- the vectors of a macro block: those of its luma blocks, and those of its Cb blocks, which its Cr blocks have too
 pub record Motion : Type 0 where

@@ -1,9 +1,8 @@
 -- Motion vectors, and how they are coded (Theora I, 7.5.1).
-use Rattle.std.specs.Prelude.{ℕ, ℤ, pos, negsuc, neg_ℤ, ◌≤ℤ◌, ◌+◌, ◌==◌, Bool, List, [], ◌∷◌, Result, Ok, Err, if◌then◌else◌}
+use Rattle.std.specs.Prelude.{ℕ, ℤ, pos, negsuc, neg_ℤ, ◌≤ℤ◌, ◌+◌, ◌==◌, Bool, List, [], ◌∷◌, Result, Ok, if◌then◌else◌}
 use Rattle.vid_base.specs.declared.shape.Vector.{Vector}
 use Rattle.vid_base.specs.declared.fault.PacketFault.{PacketFault}
-use Rattle.vid_base.specs.declared.fault.PacketFault.TheVariants.{Ended}
-use Rattle.vid_base.specs.Reading.{field, ◌>>=◌}
+use Rattle.vid_base.specs.Reading.{field, one_bit, ◌>>=◌}
 use Rattle.thr_modes.specs.declared.component.VectorCoding.{VectorCoding}
 use Rattle.thr_modes.specs.declared.component.VectorCoding.TheVariants.{Prefixed, Fixed}
 
@@ -23,11 +22,6 @@ IsComponent component = (negsuc 30 ≤ℤ component) × (component ≤ℤ pos 31
 -- no motion
 abbrev pub still : Offset
 still = record { x = pos 0; y = pos 0 }
-
--- a bit as a truth value
-unfoldable pub one_bit : List Bool → Result (Bool × List Bool) PacketFault
-one_bit [] = Err Ended
-one_bit (bit ∷ bits) = Ok (bit, bits)
 
 -- a size with its sign
 unfoldable pub signed : Bool → ℕ → ℤ

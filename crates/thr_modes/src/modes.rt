@@ -1,6 +1,6 @@
 // The modes of the macro blocks, read and written (Theora I, 7.4).
 ghost use Rattle.std.specs.Prelude.{◌≡◌, ℕ, ◌<◌, ◌++◌, [], Bool, false, List, All, OnOk, OnErr, length, slice_get, Some};
-ghost use Rattle.vid_base.specs.Reading.{Gives, GivesOrNoMem};
+ghost use Rattle.vid_base.specs.Reading.{Gives, GivesOrNoMem, KeptOnNoMem, SameEnd};
 ghost use Rattle.vid_geom.specs.CodedOrder.{order_of};
 ghost use Rattle.vid_geom.specs.MacroBlocks.{macro_blocks};
 ghost use Rattle.thr_modes.specs.InOrder.{each, Adds};
@@ -27,7 +27,8 @@ fn read_macro_mode(
     coding: &ModeCoding,
     luma: [bool; 4],
 ) -> Result<u8, PacketFault>
-    ensures { Gives (λ mode. mode) result r.new.left (macro_mode coding.now luma r.old.left) }
+    ensures value { Gives (λ mode. mode) result r.new.left (macro_mode coding.now luma r.old.left) }
+    ensures end { SameEnd r.old r.new }
 {
     if some_coded(luma) {
         read_mode(r, coding)
@@ -47,7 +48,8 @@ fn read_macro_modes(
 ) -> Result<(), PacketFault>
     requires flags { length flags.now ≡ length (order_of geom.now) }
     requires modes { length modes.old ≡ length (macro_blocks geom.now) }
-    ensures { Gives (λ _. modes.new) result r.new.left (each (macro_mode coding.now) (macro_flags geom.now flags.now) r.old.left) }
+    ensures value { Gives (λ _. modes.new) result r.new.left (each (macro_mode coding.now) (macro_flags geom.now flags.now) r.old.left) }
+    ensures end { SameEnd r.old r.new }
 {
     'macro_blocks: for m in 0..geom.macro_blocks() {
         modes[m as usize] = read_macro_mode(r, coding, luma_flags(geom, flags, m))?;
@@ -69,6 +71,7 @@ pub fn read_modes_in(
     ensures value { Gives (λ _. modes.new) result r.new.left (modes_of geom.now flags.now r.old.left) }
     ensures small { OnOk result (All (λ mode. mode < 8) modes.new) }
     ensures uncoded { OnOk result (ZeroWhereUncoded (macro_flags geom.now flags.now) modes.new) }
+    ensures end { SameEnd r.old r.new }
 {
     let scheme = r.take(3)?;
     let coding = read_coding(r, scheme)?;
@@ -88,7 +91,10 @@ pub fn read_modes(
     ensures value { GivesOrNoMem (λ _. modes.new.items) result r.new.left (modes_of geom.now flags.now r.old.left) }
     ensures small { OnOk result (All (λ mode. mode < 8) modes.new.items) }
     ensures uncoded { OnOk result (ZeroWhereUncoded (macro_flags geom.now flags.now) modes.new.items) }
+    ensures sized { OnOk result (length modes.new.items ≡ length (macro_blocks geom.now)) }
     ensures emptied { OnErr result (modes.new.items ≡ []) }
+    ensures memory { KeptOnNoMem result r.old r.new }
+    ensures end { SameEnd r.old r.new }
 {
     modes.clear();
     modes.resize(geom.macro_blocks() as usize, 0)?;

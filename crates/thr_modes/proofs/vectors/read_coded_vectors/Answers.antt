@@ -1,4 +1,4 @@
-use Rattle.std.proofs.Common.{◌≡◌, ◌∙◌, [], Some, slice_get, get_or, map, sym, arith}
+use Rattle.std.proofs.Common.{◌≡◌, ◌∙◌, [], Some, slice_get, get_or, map, refl, sym, rules, arith}
 use Rattle.std.proofs.lemmas.List.{length-map}
 use Rattle.std.proofs.lemmas.Option.{slice_get-get_or}
 use Rattle.std.proofs.lemmas.Result.{err_from_is_err_and}
@@ -13,17 +13,17 @@ pub macro_blocks-init : goal.macro_blocks-init
 macro_blocks-init c =
     let s = c.args.geom.now in
     let first = motions_first c.args.coding s c.args.flags.now c.args.modes.now (map offset_of c.args.vectors.now) c.args.r.now.left (length-map c.args.vectors.now offset_of ∙ c.requires.vectors) c.requires.modes in
-    rw c.empty-remembered.ensures first
+    record { read = rw c.empty-remembered.ensures first; end = refl }
 
-pub returns-in_err-motion : goal.returns-in_err-motion
-returns-in_err-motion c =
+pub returns-in_err-motion-clause-value : goal.returns-in_err-motion-clause-value
+returns-in_err-motion-clause-value c =
     let s = c.args.geom.now in
     let m = c.macro_blocks.m in
     let p = err_from_is_err_and c.from_residual.result c.from_residual.ensures.1 in
     let mode : slice_get c.args.modes.now m ≡ Some (get_or c.args.modes.now m 0) = slice_get-get_or c.args.modes.now m 0 (omega (arith, c.requires.modes)) in
-    let read = rw c.shape-pf.ensures at c.in_err-motion.ensures in
+    let read = rw c.shape-pf.ensures at c.in_err-motion.ensures.value in
     rw (p.1, p.2)
-    (sym c.macro_blocks.invariant
+    (sym c.macro_blocks.invariant.read
     ∙ motions_fault c.args.coding s c.args.modes.now (macro_flags s c.args.flags.now) (macro_blocks s) (map offset_of c.macro_blocks.vectors) m (get_or c.args.modes.now m 0) c.luma_flags-luma.result (memory_of c.macro_blocks.remembered) c.macro_blocks.r.left c.in_err-motion.field-0.0 mode c.luma_flags-luma.ensures read)
 
 pub macro_blocks-preserved : goal.macro_blocks-preserved
@@ -34,14 +34,17 @@ macro_blocks-preserved c =
     let area : Area = get_or (macro_blocks s) m none in
     let at : slice_get (macro_blocks s) m ≡ Some area = slice_get-get_or (macro_blocks s) m none (omega arith) in
     let mode : slice_get c.args.modes.now m ≡ Some (get_or c.args.modes.now m 0) = slice_get-get_or c.args.modes.now m 0 (omega (arith, c.requires.modes)) in
-    let read = rw c.shape-pf.ensures at c.in_ok-motion.ensures in
+    let read = rw c.shape-pf.ensures at c.in_ok-motion.ensures.value in
     let motion = motion_of s.pf c.in_ok-motion.motion in
-    rw (c.put_motion.ensures area at)
-    (motions_more c.args.coding s c.args.modes.now (macro_flags s c.args.flags.now) (macro_blocks s) (map offset_of c.macro_blocks.vectors) m (get_or c.args.modes.now m 0) c.luma_flags-luma.result area (memory_of c.macro_blocks.remembered) (memory_of c.in_ok-motion.next) motion c.macro_blocks.r.left c.read_motion.new.r.left mode c.luma_flags-luma.ensures at read
-    ∙ c.macro_blocks.invariant)
+    record {
+      read = rw (c.put_motion.ensures area at)
+          (motions_more c.args.coding s c.args.modes.now (macro_flags s c.args.flags.now) (macro_blocks s) (map offset_of c.macro_blocks.vectors) m (get_or c.args.modes.now m 0) c.luma_flags-luma.result area (memory_of c.macro_blocks.remembered) (memory_of c.in_ok-motion.next) motion c.macro_blocks.r.left c.read_motion.new.r.left mode c.luma_flags-luma.ensures at read
+          ∙ c.macro_blocks.invariant.read);
+      end = search rules;
+    }
 
-pub returns : goal.returns
-returns c =
+pub returns-clause-value : goal.returns-clause-value
+returns-clause-value c =
     let s = c.args.geom.now in
-    sym c.macro_blocks.invariant
+    sym c.macro_blocks.invariant.read
     ∙ motions_done c.args.coding s c.args.modes.now (macro_flags s c.args.flags.now) (macro_blocks s) (map offset_of c.macro_blocks.vectors) c.macro_blocks.m (memory_of c.macro_blocks.remembered) c.macro_blocks.r.left (omega (arith, c.requires.modes)) (omega arith)
