@@ -1,19 +1,21 @@
 -- What was written of a run string is read back. The writers cite these.
-use Rattle.std.proofs.Common.{arith, ◌≡◌, ◌∙◌, ◌+◌, ◌-◌, ◌<◌, ◌≤◌, ◌^◌, ℕ, zero, suc, Bool, List, [], ◌∷◌, ◌++◌, length, length-append, take, drop, Option, Some, None, Ok, Err, OnOk, Result, sym, ap, refl, append_assoc, inl, inr, subst, IfSome}
-use Rattle.std.proofs.lemmas.Bool.{cases_lt}
+use Rattle.std.proofs.Common.{arith, true, ◌≡◌, ◌∙◌, ◌+◌, ◌*◌, ◌-◌, ◌<◌, ◌≤◌, ◌^◌, ℕ, zero, suc, Bool, List, [], ◌∷◌, ◌++◌, length, length-append, take, drop, Option, Some, None, Ok, Err, OnOk, Result, sym, ap, refl, append_assoc, inl, inr, subst, IfSome}
+use Rattle.std.proofs.lemmas.Bool.{cases_lt, false≢true}
+use Rattle.std.proofs.lemmas.Bool.Decides.{nat_tests}
 use Rattle.std.proofs.lemmas.List.{append-nil, length-drop, length-replicate, length-take, replicate-append-replicate}
 use Rattle.std.proofs.Math.Seq.{take-append_seam, drop-append_seam}
 use Rattle.std.specs.Prelude.{replicate}
 use Rattle.vid_base.specs.Bits.{digits}
 use Rattle.vid_base.specs.Items.{with_front}
+use Rattle.vid_base.proofs.DigitLemmas.{length-digits}
 use Rattle.vid_base.proofs.NumberLemmas.{take-digits}
 use Rattle.thr_flags.specs.declared.runs.RunCode.{RunCode}
 use Rattle.thr_flags.specs.declared.writing.Run.{Run}
-use Rattle.thr_flags.specs.declared.runs.RunCode.TheVariants.{Short}
+use Rattle.thr_flags.specs.declared.runs.RunCode.TheVariants.{Long, Short}
 use Rattle.vid_base.specs.Reading.{one_bit}
-use Rattle.thr_flags.specs.RunStrings.{longest, HasRunsUpTo, next_value, run_from, run_of, run_on, run_string, values}
+use Rattle.thr_flags.specs.RunStrings.{is_renewed, longest, HasRunsUpTo, next_value, run_from, run_of, run_on, run_string, values}
 use Rattle.vid_base.specs.Writing.{Grows, ReadsBack}
-use Rattle.thr_flags.specs.Writing.{Fits, Holds, IsOpen, IsRun}
+use Rattle.thr_flags.specs.Writing.{Fits, Holds, IsOpen, IsRun, most_bits}
 use Rattle.thr_flags.proofs.RunLemmas.{values_run, with_both, with_nothing}
 
 -- what follows from a fact of an `Ok`
@@ -56,6 +58,7 @@ open_first code old new v e = record {
   added = e;
   done = [];
   all = refl;
+  few = omega arith;
   reads = λ n rest. let one : 0 + suc n ≡ suc n = omega arith in rw one (sym (with_nothing _));
 }
 
@@ -68,6 +71,7 @@ open_longer code old now xs v run h = record {
   more = h.more;
   added = h.added;
   done = h.done;
+  few = h.few;
   all = ap (λ z. z ++ v ∷ []) h.all ∙ append_assoc h.done (replicate run v) (v ∷ []) ∙ ap (λ z. h.done ++ z) (replicate-snoc run v);
   reads = h.reads;
 }
@@ -86,15 +90,34 @@ values-turn : (code : RunCode) (n run : ℕ) (v w : Bool) (bits rest : List Bool
 unfolding run_on values
 values-turn code n run v w bits rest e = rw e refl
 
+-- behind the longest run there is room for a bit more
+pub one_more : (code : RunCode) (now mid new : List Bool) (v : Bool) (run : ℕ) → is_renewed code run ≡ true → length mid ≤ length now + 18 → new ≡ mid ++ v ∷ [] → length new ≤ length now + 2 * run
+one_more Long now mid new v run e most is = let long : run ≡ 4129 = grind (arith, nat_tests) in omega (arith, ap length is, length-append mid (v ∷ []))
+one_more Short now mid new v run e most is = absurd (false≢true e)
+
 -- the run ends, and a value begins the next
 pub open_next : (code : RunCode) (old now mid new xs end : List Bool) (v w : Bool) (run : ℕ) → IsOpen code old now xs v run → 0 < run
-    → ReadsBack (run_of code) run now mid → new ≡ mid ++ end → ((rest : List Bool) → next_value code run v (end ++ rest) ≡ Ok (w, rest))
+    → ReadsBack (run_of code) run now mid → new ≡ mid ++ end → length new ≤ length now + 2 * run → ((rest : List Bool) → next_value code run v (end ++ rest) ≡ Ok (w, rest))
     → IsOpen code old new (xs ++ w ∷ []) w 1
-open_next code old now mid new xs end v w run h some c e next = record {
+open_next code old now mid new xs end v w run h some c e most next = record {
   more = (h.more ++ c.more) ++ end;
   added = e ∙ ap (λ z. z ++ end) (c.added ∙ ap (λ z. z ++ c.more) h.added ∙ append_assoc old h.more c.more) ∙ append_assoc old (h.more ++ c.more) end;
   done = xs;
   all = refl;
+  few = omega (
+    arith,
+    most,
+    h.few,
+    length-held code old now xs v run h,
+    ap length h.added,
+    ap length c.added,
+    ap length e,
+    length-append old h.more,
+    length-append now c.more,
+    length-append mid end,
+    length-append (h.more ++ c.more) end,
+    length-append h.more c.more,
+  );
   reads = λ n rest.
       let bits : ((h.more ++ c.more) ++ end) ++ rest ≡ h.more ++ (c.more ++ (end ++ rest)) = append_assoc (h.more ++ c.more) end rest ∙ append_assoc h.more c.more (end ++ rest) in
       let count : length xs + suc n ≡ length h.done + suc (run + n) = omega (arith, length-held code old now xs v run h) in
@@ -162,3 +185,18 @@ pub few_rows : (most : ℕ) (values : List Bool) → length values ≤ most → 
 few_rows most values few at v e =
     let long : length (replicate (most + 1) v) ≡ most + 1 = length-replicate (most + 1) v in
     absurd (omega (arith, ap length e, long, length-take (most + 1) (drop at values), length-drop at values))
+
+-- and few bits were added
+pub close_few : (code : RunCode) (old now new xs : List Bool) (v : Bool) (run : ℕ) → IsOpen code old now xs v run → length new ≤ length now + 2 * run → length new ≤ length old + most_bits (length xs)
+close_few code old now new xs v run h most = omega (arith, most, h.few, length-held code old now xs v run h, ap length h.added, length-append old h.more)
+
+pub close_few_none : (old now xs : List Bool) → (xs ≡ []) × (now ≡ old) → length now ≤ length old + most_bits (length xs)
+close_few_none old now xs h = rw (h.0, h.1) (omega arith)
+
+-- a run has few bits
+row_long : (front width n longer : ℕ) (old mid new : List Bool) → mid ≡ old ++ digits width front → new ≡ mid ++ digits n longer → length new ≡ length old + (width + n)
+row_long front width n longer old mid new e f =
+    omega (arith, ap length e, ap length f, length-append old (digits width front), length-append mid (digits n longer), length-digits width front, length-digits n longer)
+
+pub row_few : (front width n longer most : ℕ) (old mid new : List Bool) → width + n ≤ most → mid ≡ old ++ digits width front → new ≡ mid ++ digits n longer → length new ≤ length old + most
+row_few front width n longer most old mid new few e f = omega (arith, few, row_long front width n longer old mid new e f)

@@ -1,5 +1,5 @@
 // The lengths of runs (Theora I, 7.2.1 and 7.2.2).
-ghost use Rattle.std.specs.Prelude.{◌≡◌, ◌≤◌, ◌<◌, ◌-◌, ◌^◌, ◌++◌, Bool, List, IfOk, OnErr, OnOk};
+ghost use Rattle.std.specs.Prelude.{◌≡◌, ◌≤◌, ◌<◌, ◌+◌, ◌-◌, ◌*◌, ◌^◌, ◌++◌, Bool, List, IfOk, OnErr, OnOk, length};
 ghost use Rattle.vid_base.specs.Bits.{digits};
 ghost use Rattle.vid_base.specs.Reading.{Gives, SameEnd, field, one_bit};
 ghost use Rattle.thr_flags.specs.RunStrings.{is_renewed, longest, next_value, run_from, run_of};
@@ -131,6 +131,7 @@ fn long_row(run: u32) -> Row
     ensures front { (rest : List Bool) → run_of Long (digits result.width result.front ++ rest) ≡ run_from (result.least, result.n) rest }
     ensures within { (result.least ≤ run) × (run - result.least < 2 ^ result.n) }
     ensures small { (result.width ≤ 6) × (result.front < 2 ^ result.width) × (result.n ≤ 12) }
+    ensures few { result.width + result.n ≤ 2 * run }
 {
     match run {
         1 => table_row(0, 1, 1, 0),
@@ -150,6 +151,7 @@ fn short_row(run: u32) -> Row
     ensures front { (rest : List Bool) → run_of Short (digits result.width result.front ++ rest) ≡ run_from (result.least, result.n) rest }
     ensures within { (result.least ≤ run) × (run - result.least < 2 ^ result.n) }
     ensures small { (result.width ≤ 6) × (result.front < 2 ^ result.width) × (result.n ≤ 12) }
+    ensures few { result.width + result.n ≤ 2 * run }
 {
     match run {
         1..=2 => table_row(0, 1, 1, 1),
@@ -168,6 +170,7 @@ impl RunCode {
         ensures front { (rest : List Bool) → run_of self (digits result.width result.front ++ rest) ≡ run_from (result.least, result.n) rest }
         ensures within { (result.least ≤ run) × (run - result.least < 2 ^ result.n) }
         ensures small { (result.width ≤ 6) × (result.front < 2 ^ result.width) × (result.n ≤ 12) }
+        ensures few { result.width + result.n ≤ 2 * run }
     {
         match self {
             RunCode::Long => long_row(run),
@@ -179,6 +182,8 @@ impl RunCode {
     pub(crate) fn write_run(self, w: &mut BitWriter, run: u32) -> Result<(), NoMem>
         requires { (0 < run) × (run ≤ longest self) }
         ensures reads_back { OnOk result (ReadsBack (run_of self) run w.old w.new) }
+        ensures few { OnOk result (length w.new ≤ length w.old + 2 * run) }
+        ensures most { OnOk result (length w.new ≤ length w.old + 18) }
         ensures memory { OnErr result (Grows w.old w.new) }
     {
         let row = self.row_of(run);

@@ -1,8 +1,8 @@
 // Run strings are written (Theora I, 7.2).
-ghost use Rattle.std.specs.Prelude.{◌≡◌, ◌≤◌, ◌<◌, ◌++◌, ◌∷◌, [], Bool, List, not, false, length, IfOk, IfSome, OnErr, OnOk, Some};
+ghost use Rattle.std.specs.Prelude.{◌≡◌, ◌≤◌, ◌<◌, ◌+◌, ◌++◌, ◌∷◌, [], Bool, List, not, false, length, IfOk, IfSome, OnErr, OnOk, Some};
 ghost use Rattle.thr_flags.specs.RunStrings.{HasRunsUpTo, is_renewed, long_string, short_string};
 ghost use Rattle.vid_base.specs.Writing.{AddsBit, Grows, ReadsBack};
-ghost use Rattle.thr_flags.specs.Writing.{AddsString, Fits, Holds, IsRun};
+ghost use Rattle.thr_flags.specs.Writing.{AddsString, Fits, Holds, IsRun, most_bits};
 ghost use Rattle.thr_flags.specs.declared.runs.RunCode.{RunCode};
 ghost use Rattle.thr_flags.specs.declared.runs.RunCode.TheVariants.{Short};
 
@@ -81,6 +81,7 @@ pub(crate) fn push(
 pub(crate) fn close(w: &mut BitWriter, code: RunCode, last: Option<Run>) -> Result<(), NoMem>
     requires run { IfSome last (IsRun code) }
     ensures reads_back { OnOk result ((old xs : List Bool) → Holds code old w.old xs last → AddsString code xs old w.new) }
+    ensures few { OnOk result ((old xs : List Bool) → Holds code old w.old xs last → length w.new ≤ length old + most_bits (length xs)) }
     ensures memory { OnErr result (Grows w.old w.new) }
 {
     match last {
@@ -93,6 +94,7 @@ pub(crate) fn close(w: &mut BitWriter, code: RunCode, last: Option<Run>) -> Resu
 fn write_string(w: &mut BitWriter, code: RunCode, bits: &[bool]) -> Result<(), NoMem>
     requires { code ≡ Short → HasRunsUpTo 30 bits.now }
     ensures reads_back { OnOk result (AddsString code bits.now w.old w.new) }
+    ensures few { OnOk result (length w.new ≤ length w.old + most_bits (length bits.now)) }
     ensures memory { OnErr result (Grows w.old w.new) }
 {
     let mut last = None;
@@ -106,6 +108,7 @@ fn write_string(w: &mut BitWriter, code: RunCode, bits: &[bool]) -> Result<(), N
 /// others.
 pub fn write_long(w: &mut BitWriter, bits: &[bool]) -> Result<(), NoMem>
     ensures reads_back { OnOk result (ReadsBack (long_string (length bits.now)) bits.now w.old w.new) }
+    ensures few { OnOk result (length w.new ≤ length w.old + most_bits (length bits.now)) }
     ensures memory { OnErr result (Grows w.old w.new) }
 {
     write_string(w, RunCode::Long, bits)
@@ -116,6 +119,7 @@ pub fn write_long(w: &mut BitWriter, bits: &[bool]) -> Result<(), NoMem>
 pub fn write_short(w: &mut BitWriter, bits: &[bool]) -> Result<(), NoMem>
     requires { HasRunsUpTo 30 bits.now }
     ensures reads_back { OnOk result (ReadsBack (short_string (length bits.now)) bits.now w.old w.new) }
+    ensures few { OnOk result (length w.new ≤ length w.old + most_bits (length bits.now)) }
     ensures memory { OnErr result (Grows w.old w.new) }
 {
     write_string(w, RunCode::Short, bits)
