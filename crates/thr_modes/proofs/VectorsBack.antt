@@ -8,20 +8,16 @@ use Rattle.std.proofs.lemmas.Int.{ints}
 use Rattle.std.proofs.lemmas.List.Elements.{All-head, All-tail}
 use Rattle.vid_base.specs.declared.fault.PacketFault.{PacketFault}
 use Rattle.vid_base.specs.Bits.{digits}
-use Rattle.vid_base.specs.Reading.{◌>>=◌}
+use Rattle.vid_base.specs.Reading.{one_bit, ◌>>=◌}
 use Rattle.vid_base.proofs.NumberLemmas.{take-digits}
 use Rattle.thr_modes.specs.declared.component.VectorCoding.{VectorCoding}
 use Rattle.thr_modes.specs.declared.component.VectorCoding.TheVariants.{Fixed}
+use Rattle.thr_modes.specs.Chosen.{IsVector}
 use Rattle.thr_modes.specs.InOrder.{each}
-use Rattle.vid_base.specs.Reading.{one_bit}
 use Rattle.thr_modes.specs.Vectors.{Offset, IsComponent, still, signed, sized, component, vector_in}
 use Rattle.thr_modes.specs.Motion.{Motion, Memory, same_motion, own_motion, after, exchanged, own_vector, last_coded, motion_in, motions}
 use Rattle.thr_modes.specs.WrittenVectors.{component_code, vector_code, own_codes, motion_code, motions_code}
 use Rattle.thr_modes.proofs.OkLemmas.{any_ok}
-
--- its components are no larger than 31
-abbrev pub IsVector : Offset → Type 0
-IsVector v = IsComponent v.x × IsComponent v.y
 
 size_small : (c : ℤ) → IsComponent c → unsigned_abs c < 32
 size_small (pos k) h = omega (arith, ints)
@@ -39,7 +35,7 @@ component_back c more h =
     rw (append_assoc (digits 5 (unsigned_abs c)) (is_negative c ∷ []) more, take-digits 5 (unsigned_abs c) (is_negative c ∷ more) (size_small c h)) (ap (λ k. Ok (k, more)) (sign_back c))
 
 -- a vector is read back
-vector_back : (v : Offset) (more : List Bool) → IsVector v → vector_in Fixed (vector_code v ++ more) ≡ Ok (v, more)
+pub vector_back : (v : Offset) (more : List Bool) → IsVector v → vector_in Fixed (vector_code v ++ more) ≡ Ok (v, more)
 unfolding vector_in vector_code
 vector_back v more h = rw (append_assoc (component_code v.x) (component_code v.y) more, component_back v.x (component_code v.y ++ more) h.0, component_back v.y more h.1) refl
 
@@ -76,7 +72,7 @@ owns_back coding (coded ∷ luma) bits = go (own_vector coding coded bits) (own_
     go (Err fault) own owns = tt
 
 -- a macro block by the tests of its mode
-abbrev motion_by : Bool → Bool → Bool → Bool → Bool → VectorCoding → ℕ → List Bool → Memory → List Bool → Result ((Motion × Memory) × List Bool) PacketFault
+abbrev pub motion_by : Bool → Bool → Bool → Bool → Bool → VectorCoding → ℕ → List Bool → Memory → List Bool → Result ((Motion × Memory) × List Bool) PacketFault
 motion_by new last last2 golden own coding pf luma memory bits =
     cond new (vector_in coding bits >>= (λ v. Ok ((same_motion pf v.0, after v.0 memory), v.1)))
     (cond last (Ok ((same_motion pf memory.last1, memory), bits))
@@ -85,7 +81,7 @@ motion_by new last last2 golden own coding pf luma memory bits =
     (cond own (each (own_vector coding) luma bits >>= (λ vs. Ok ((own_motion pf vs.0, after (last_coded luma vs.0 memory.last1) memory), vs.1)))
     (Ok ((same_motion pf still, memory), bits))))))
 
-abbrev code_by : Bool → Bool → Bool → List Bool → List Offset → List Bool
+abbrev pub code_by : Bool → Bool → Bool → List Bool → List Offset → List Bool
 code_by new golden own luma vectors = cond (new || golden) (vector_code (get_or vectors 0 still)) (cond own (own_codes luma vectors) [])
 
 abbrev ByBack : Bool → Bool → Bool → Bool → Bool → ℕ → List Bool → Memory → (Motion × Memory) × List Bool → Type 0

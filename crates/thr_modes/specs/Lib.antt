@@ -2,6 +2,7 @@ pub mod InOrder
 pub mod LumaFlags
 pub mod Modes
 pub mod Motion
+pub mod Chosen
 pub mod Placing
 pub mod Vectors
 pub mod Views

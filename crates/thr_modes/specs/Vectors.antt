@@ -1,5 +1,5 @@
 -- Motion vectors, and how they are coded (Theora I, 7.5.1).
-use Rattle.std.specs.Prelude.{ℕ, ℤ, pos, negsuc, neg_ℤ, ◌≤ℤ◌, ◌+◌, ◌==◌, Bool, List, [], ◌∷◌, Result, Ok, if◌then◌else◌}
+use Rattle.std.specs.Prelude.{ℕ, ℤ, pos, negsuc, neg_ℤ, ◌≤ℤ◌, ◌+◌, ◌==◌, Bool, List, Result, Ok, if◌then◌else◌}
 use Rattle.vid_base.specs.declared.shape.Vector.{Vector}
 use Rattle.vid_base.specs.declared.fault.PacketFault.{PacketFault}
 use Rattle.vid_base.specs.Reading.{field, one_bit, ◌>>=◌}

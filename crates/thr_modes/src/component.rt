@@ -1,6 +1,7 @@
 // Motion vectors and their components in a packet (Theora I, 7.5.1).
 ghost use Rattle.std.specs.Prelude.{◌≡◌, ◌+◌, ◌<◌, ◌≤◌, ◌^◌, ◌∷◌, ◌++◌, [], Bool, List, IfOk, OnOk, OnErr};
 ghost use Rattle.vid_base.specs.Reading.{Gives, SameEnd};
+ghost use Rattle.vid_base.specs.Writing.{AddsBit, Grows};
 ghost use Rattle.thr_modes.specs.Vectors.{signed, sized, prefixed, component, vector_in, offset_of, IsComponent};
 ghost use Rattle.thr_modes.specs.WrittenVectors.{component_code, vector_code};
 
@@ -82,8 +83,8 @@ pub fn read_vector(r: &mut BitReader, coding: VectorCoding) -> Result<Vector, Pa
 
 /// Adds a bit.
 pub fn write_bit(w: &mut BitWriter, bit: bool) -> Result<(), NoMem>
-    ensures written { OnOk result (w.new ≡ w.old ++ bit ∷ []) }
-    ensures memory { OnErr result ((more : List Bool) × (w.new ≡ w.old ++ more)) }
+    ensures written { OnOk result (AddsBit bit w.old w.new) }
+    ensures memory { OnErr result (Grows w.old w.new) }
 {
     w.put(u32::from(bit), 1)
 }
@@ -93,7 +94,7 @@ pub fn write_bit(w: &mut BitWriter, bit: bool) -> Result<(), NoMem>
 fn write_component(w: &mut BitWriter, component: i8) -> Result<(), NoMem>
     requires { IsComponent component }
     ensures written { OnOk result (w.new ≡ w.old ++ component_code component) }
-    ensures memory { OnErr result ((more : List Bool) × (w.new ≡ w.old ++ more)) }
+    ensures memory { OnErr result (Grows w.old w.new) }
 {
     w.put(u32::from(component.unsigned_abs()), 5)?;
     write_bit(w, component < 0)
@@ -103,7 +104,7 @@ fn write_component(w: &mut BitWriter, component: i8) -> Result<(), NoMem>
 #[tactic(auto, unfolding(crate::specs::WrittenVectors::vector_code, crate::specs::Vectors::offset_of))]
 pub fn write_vector(w: &mut BitWriter, vector: Vector) -> Result<(), NoMem>
     ensures written { OnOk result (w.new ≡ w.old ++ vector_code (offset_of vector)) }
-    ensures memory { OnErr result ((more : List Bool) × (w.new ≡ w.old ++ more)) }
+    ensures memory { OnErr result (Grows w.old w.new) }
 {
     write_component(w, vector.x)?;
     write_component(w, vector.y)

@@ -1,9 +1,10 @@
 // The modes of the macro blocks, read and written (Theora I, 7.4).
-ghost use Rattle.std.specs.Prelude.{◌≡◌, ℕ, ◌<◌, ◌++◌, [], Bool, false, List, All, OnOk, OnErr, length, slice_get, Some};
+ghost use Rattle.std.specs.Prelude.{◌≡◌, ℕ, ◌+◌, ◌*◌, ◌<◌, ◌≤◌, ◌++◌, [], Bool, false, List, All, OnOk, OnErr, length, slice_get, Some};
 ghost use Rattle.vid_base.specs.Reading.{Gives, GivesOrNoMem, KeptOnNoMem, SameEnd};
+ghost use Rattle.vid_base.specs.Writing.{Grows, ReadsBack};
 ghost use Rattle.vid_geom.specs.CodedOrder.{order_of};
 ghost use Rattle.vid_geom.specs.MacroBlocks.{macro_blocks};
-ghost use Rattle.thr_modes.specs.InOrder.{each, Adds};
+ghost use Rattle.thr_modes.specs.InOrder.{each};
 ghost use Rattle.thr_modes.specs.LumaFlags.{macro_flags, some_coded};
 ghost use Rattle.thr_modes.specs.Written.{mode_code, modes_code};
 ghost use Rattle.thr_modes.specs.Modes.{macro_mode, modes_of, ZeroWhereUncoded};
@@ -110,7 +111,7 @@ pub fn read_modes(
 fn write_macro_mode(w: &mut BitWriter, luma: [bool; 4], mode: u8) -> Result<(), NoMem>
     requires { mode < 8 }
     ensures written { OnOk result (w.new ≡ w.old ++ mode_code luma mode) }
-    ensures memory { OnErr result ((more : List Bool) × (w.new ≡ w.old ++ more)) }
+    ensures memory { OnErr result (Grows w.old w.new) }
 {
     if some_coded(luma) {
         w.put(u32::from(mode), 3)?;
@@ -130,7 +131,7 @@ fn write_macro_modes(
     requires modes { length modes.now ≡ length (macro_blocks geom.now) }
     requires small { All (λ mode. mode < 8) modes.now }
     ensures written { OnOk result (w.new ≡ w.old ++ modes_code (macro_flags geom.now flags.now) modes.now) }
-    ensures memory { OnErr result ((more : List Bool) × (w.new ≡ w.old ++ more)) }
+    ensures memory { OnErr result (Grows w.old w.new) }
 {
     'macro_blocks: for m in 0..geom.macro_blocks() {
         write_macro_mode(w, luma_flags(geom, flags, m), modes[m as usize])?;
@@ -151,8 +152,9 @@ pub fn write_modes(
     requires flags { length flags.now ≡ length (order_of geom.now) }
     requires modes { length modes.now ≡ length (macro_blocks geom.now) }
     requires small { All (λ mode. mode < 8) modes.now }
-    ensures reads_back { ZeroWhereUncoded (macro_flags geom.now flags.now) modes.now → OnOk result (Adds (modes_of geom.now flags.now) modes.now w.old w.new) }
-    ensures memory { OnErr result ((more : List Bool) × (w.new ≡ w.old ++ more)) }
+    ensures reads_back { ZeroWhereUncoded (macro_flags geom.now flags.now) modes.now → OnOk result (ReadsBack (modes_of geom.now flags.now) modes.now w.old w.new) }
+    ensures few { OnOk result (length w.new ≤ length w.old + (3 + 3 * length (macro_blocks geom.now))) }
+    ensures memory { OnErr result (Grows w.old w.new) }
 {
     w.put(7, 3)?;
     write_macro_modes(w, geom, flags, modes)?;
