@@ -7,7 +7,7 @@ ghost use Rattle.thr_modes.specs.Vectors.{offset_of};
 ghost use Rattle.thr_modes.specs.Motion.{coded_vectors, vector_coding, vectors_of};
 
 use crate::component::VectorCoding;
-use crate::luma::luma_flags;
+use crate::luma::flags_at;
 use crate::motion::{Remembered, STILL, read_motion};
 use crate::placing::put_motion;
 use vid_base::{BitReader, PacketFault, Refusal, Vector};
@@ -43,10 +43,11 @@ fn read_coded_vectors(
     let pf = geom.shape().pf;
     let mut remembered = Remembered::empty();
     'macro_blocks: for m in 0..geom.macro_blocks() {
-        let luma = luma_flags(geom, flags, m);
+        let numbers = geom.macro_block(m);
+        let luma = flags_at(flags, numbers.luma);
         let mode = modes[m as usize];
         let (motion, next) = read_motion(r, coding, pf, mode, luma, remembered)?;
-        put_motion(vectors, geom, m, &motion);
+        put_motion(vectors, &numbers, &motion);
         remembered = next;
     }
     Ok(())

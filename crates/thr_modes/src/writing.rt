@@ -1,5 +1,5 @@
 // Writing the motion vectors of a frame (Theora I, 7.5). They are written under MVMODE 1 always (own).
-ghost use Rattle.std.specs.Prelude.{◌≡◌, ◌+◌, ◌*◌, ◌<◌, ◌≤◌, ◌++◌, ◌∷◌, [], true, Bool, List, All, OnOk, OnErr, Some, length, map, get_or, slice_get, if◌then◌else◌};
+ghost use Rattle.std.specs.Prelude.{◌≡◌, ◌+◌, ◌*◌, ◌<◌, ◌≤◌, ◌++◌, ◌∷◌, [], true, Bool, List, All, OnOk, OnErr, length, map, get_or, if◌then◌else◌};
 ghost use Rattle.vid_base.specs.Writing.{Grows, ReadsBack};
 ghost use Rattle.vid_geom.specs.CodedOrder.{order_of};
 ghost use Rattle.vid_geom.specs.MacroBlocks.{macro_blocks};
@@ -11,7 +11,7 @@ ghost use Rattle.thr_modes.specs.Motion.{vectors_of};
 ghost use Rattle.thr_modes.specs.WrittenVectors.{vector_code, own_codes, motion_code, motions_code, macro_vectors};
 
 use crate::component::{write_bit, write_vector};
-use crate::luma::luma_flags;
+use crate::luma::flags_at;
 use crate::motion::{INTER_GOLDEN_MV, INTER_MV, INTER_MV_FOUR};
 use vid_base::{BitWriter, NoMem, Vector};
 use vid_geom::Geom;
@@ -27,15 +27,6 @@ fn vectors_at(vectors: &[Vector], places: [u32; 4]) -> [Vector; 4]
         vectors[places[2] as usize],
         vectors[places[3] as usize],
     ]
-}
-
-// The vectors of the luma blocks of a macro block, in raster order from the lower left.
-fn luma_vectors(geom: &Geom, vectors: &[Vector], m: u32) -> [Vector; 4]
-    requires vectors { length vectors.now ≡ length (order_of geom.now) }
-    requires m { m < length (macro_blocks geom.now) }
-    ensures { slice_get (macro_vectors geom.now (map offset_of vectors.now)) m ≡ Some (map offset_of result) }
-{
-    vectors_at(vectors, geom.macro_block(m).luma)
 }
 
 // The vector of a luma block, if it is coded.
@@ -94,8 +85,9 @@ fn write_motions(
     ensures memory { OnErr result (Grows w.old w.new) }
 {
     'macro_blocks: for m in 0..geom.macro_blocks() {
-        let luma = luma_flags(geom, flags, m);
-        write_motion(w, modes[m as usize], luma, luma_vectors(geom, vectors, m))?;
+        let places = geom.luma_places(m);
+        let luma = flags_at(flags, places);
+        write_motion(w, modes[m as usize], luma, vectors_at(vectors, places))?;
     }
     Ok(())
 }
