@@ -88,8 +88,8 @@ pub fn read_flags_in(
     Ok(())
 }
 
-/// Reads which blocks of a frame are coded, one flag for each block in coded order, into the list, which is emptied first
-/// (Theora I, 7.3). The first fault is `Ended`, or `RunTooLong` where a run passes the end of one of the three strings.
+/// Reads which blocks of a frame are coded, one flag for each block in coded order, into the list, in place
+/// of those that it has (Theora I, 7.3). The first fault is `Ended`, or `RunTooLong` where a run passes the end of one of the three strings.
 /// After a refusal the list is empty; after `NoMem` the reader stands where it stood.
 pub fn read_flags(r: &mut BitReader, geom: &Geom, flags: &mut Vec<bool>) -> Result<(), Refusal>
     ensures value { GivesOrNoMem (λ _. flags.new.items) result r.new.left (flags_of geom.now r.old.left) }

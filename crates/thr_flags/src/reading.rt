@@ -79,14 +79,16 @@ pub fn read_short_in(r: &mut BitReader, into: &mut [bool]) -> Result<(), PacketF
     read_string(r, RunCode::Short, into)
 }
 
-/// Makes the list as many values long.
+/// Makes the list as many values long. Those that it has stay, to be read over.
 pub(crate) fn size(into: &mut Vec<bool>, n: usize) -> Result<(), Refusal>
     ensures sized { OnOk result (length into.new.items ≡ n) }
     ensures refused { OnErr result (into.new.items ≡ []) }
     ensures memory { OnErr result (result ≡ Err NoMem) }
 {
-    into.clear();
-    into.resize(n, false)?;
+    if into.resize(n, false).is_err() {
+        into.clear();
+        return Err(Refusal::NoMem);
+    }
     Ok(())
 }
 
@@ -110,7 +112,7 @@ fn read_string_into(
     Ok(())
 }
 
-/// Reads a long run string of n values into the list, which is emptied first (Theora I, 7.2.1). The first fault is
+/// Reads a long run string of n values into the list in place of those that it has (Theora I, 7.2.1). The first fault is
 /// `Ended`, or `RunTooLong` where a run whose bits were all read passes n. After a refusal the list is empty.
 pub fn read_long(r: &mut BitReader, n: u32, into: &mut Vec<bool>) -> Result<(), Refusal>
     ensures value { GivesOrNoMem (λ _. into.new.items) result r.new.left (long_string n r.old.left) }

@@ -97,8 +97,10 @@ pub fn read_modes(
     ensures memory { KeptOnNoMem result r.old r.new }
     ensures end { SameEnd r.old r.new }
 {
-    modes.clear();
-    modes.resize(geom.macro_blocks() as usize, 0)?;
+    if modes.resize(geom.macro_blocks() as usize, 0).is_err() {
+        modes.clear();
+        return Err(Refusal::NoMem);
+    }
     let read = read_modes_in(r, geom, flags, modes);
     if read.is_err() {
         modes.clear();

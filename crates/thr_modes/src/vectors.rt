@@ -91,8 +91,10 @@ pub fn read_vectors(
     ensures memory { KeptOnNoMem result r.old r.new }
     ensures end { SameEnd r.old r.new }
 {
-    vectors.clear();
-    vectors.resize(geom.blocks() as usize, STILL)?;
+    if vectors.resize(geom.blocks() as usize, STILL).is_err() {
+        vectors.clear();
+        return Err(Refusal::NoMem);
+    }
     let read = read_vectors_in(r, geom, flags, modes, vectors);
     if read.is_err() {
         vectors.clear();
