@@ -12,7 +12,7 @@ use Rattle.vid_geom.specs.declared.block.Block.{Block}
 use Rattle.vid_geom.specs.Squares.{joined}
 use Rattle.vid_geom.specs.CodedOrder.{order_of, superblocks}
 use Rattle.vid_geom.proofs.ListLemmas.{filter-map, joined-append}
-use Rattle.thr_flags.specs.declared.runs.RunCode.TheVariants.{Long, Short}
+use Rattle.thr_flags.specs.RunStrings.{Long, Short}
 use Rattle.vid_base.specs.Writing.{ReadsBack}
 use Rattle.thr_flags.specs.Writing.{AddsString, most_bits}
 use Rattle.thr_flags.specs.Flags.{count_whole, flags_of, partial_blocks, sizes_of, spread}

@@ -6,7 +6,7 @@ ghost use Rattle.thr_flags.specs.Flags.{flags_of};
 ghost use Rattle.thr_flags.specs.WrittenFlags.{fully_in, is_partial, partly_in, parts_of, single_in};
 ghost use Rattle.vid_base.specs.Writing.{Grows, ReadsBack};
 ghost use Rattle.thr_flags.specs.Writing.{AddsString, most_bits};
-ghost use Rattle.thr_flags.specs.declared.runs.RunCode.TheVariants.{Long, Short};
+ghost use Rattle.thr_flags.specs.RunStrings.{Long, Short};
 
 use crate::runs::RunCode;
 use crate::writing::{close, push};

@@ -3,6 +3,7 @@ ghost use Rattle.std.specs.Prelude.{◌≡◌, ◌≤◌, ◌<◌, ◌+◌, ◌^
 ghost use Rattle.vid_base.specs.Reading.{Gives, GivesOrNoMem, KeptOnNoMem, SameEnd};
 ghost use Rattle.vid_base.specs.declared.fault.Refusal.TheVariants.{NoMem};
 ghost use Rattle.thr_flags.specs.RunStrings.{long_string, run_string, short_string, values};
+ghost use Rattle.thr_flags.specs.Views.{run_form};
 
 use crate::runs::RunCode;
 use vid_base::{BitReader, PacketFault, Refusal};
@@ -27,7 +28,7 @@ fn read_runs(
     requires some { 0 < length into.old }
     requires small { first_run < 2 ^ 16 }
     requires run { 0 < first_run }
-    ensures value { Gives (λ _. into.new) result r.new.left (values code (length into.old) first_run first_run first r.old.left) }
+    ensures value { Gives (λ _. into.new) result r.new.left (values (run_form code) (length into.old) first_run first_run first r.old.left) }
     ensures end { SameEnd r.old r.new }
 {
     let mut value = first;
@@ -51,7 +52,7 @@ pub(crate) fn read_string(
     code: RunCode,
     into: &mut [bool],
 ) -> Result<(), PacketFault>
-    ensures value { Gives (λ _. into.new) result r.new.left (run_string code (length into.old) r.old.left) }
+    ensures value { Gives (λ _. into.new) result r.new.left (run_string (run_form code) (length into.old) r.old.left) }
     ensures end { SameEnd r.old r.new }
 {
     if into.is_empty() {
@@ -99,7 +100,7 @@ fn read_string_into(
     n: u32,
     into: &mut Vec<bool>,
 ) -> Result<(), Refusal>
-    ensures value { GivesOrNoMem (λ _. into.new.items) result r.new.left (run_string code n r.old.left) }
+    ensures value { GivesOrNoMem (λ _. into.new.items) result r.new.left (run_string (run_form code) n r.old.left) }
     ensures refused { OnErr result (into.new.items ≡ []) }
     ensures memory { KeptOnNoMem result r.old r.new }
     ensures end { SameEnd r.old r.new }

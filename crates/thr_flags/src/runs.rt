@@ -2,9 +2,9 @@
 ghost use Rattle.std.specs.Prelude.{◌≡◌, ◌≤◌, ◌<◌, ◌+◌, ◌-◌, ◌*◌, ◌^◌, ◌++◌, Bool, List, IfOk, OnErr, OnOk, length};
 ghost use Rattle.vid_base.specs.Bits.{digits};
 ghost use Rattle.vid_base.specs.Reading.{Gives, SameEnd, field, one_bit};
-ghost use Rattle.thr_flags.specs.RunStrings.{is_renewed, longest, next_value, run_from, run_of};
+ghost use Rattle.thr_flags.specs.RunStrings.{is_renewed, longest, next_value, run_from, run_of, Long, Short};
 ghost use Rattle.vid_base.specs.Writing.{Grows, ReadsBack};
-ghost use Rattle.thr_flags.specs.declared.runs.RunCode.TheVariants.{Long, Short};
+ghost use Rattle.thr_flags.specs.Views.{run_form};
 
 use vid_base::{BitReader, BitWriter, NoMem, PacketFault};
 
@@ -166,8 +166,8 @@ fn short_row(run: u32) -> Row
 impl RunCode {
     // The row of a run.
     fn row_of(self, run: u32) -> Row
-        requires { (0 < run) × (run ≤ longest self) }
-        ensures front { (rest : List Bool) → run_of self (digits result.width result.front ++ rest) ≡ run_from (result.least, result.n) rest }
+        requires { (0 < run) × (run ≤ longest (run_form self)) }
+        ensures front { (rest : List Bool) → run_of (run_form self) (digits result.width result.front ++ rest) ≡ run_from (result.least, result.n) rest }
         ensures within { (result.least ≤ run) × (run - result.least < 2 ^ result.n) }
         ensures small { (result.width ≤ 6) × (result.front < 2 ^ result.width) × (result.n ≤ 12) }
         ensures few { result.width + result.n ≤ 2 * run }
@@ -180,8 +180,8 @@ impl RunCode {
 
     /// Writes the length of a run.
     pub(crate) fn write_run(self, w: &mut BitWriter, run: u32) -> Result<(), NoMem>
-        requires { (0 < run) × (run ≤ longest self) }
-        ensures reads_back { OnOk result (ReadsBack (run_of self) run w.old w.new) }
+        requires { (0 < run) × (run ≤ longest (run_form self)) }
+        ensures reads_back { OnOk result (ReadsBack (run_of (run_form self)) run w.old w.new) }
         ensures few { OnOk result (length w.new ≤ length w.old + 2 * run) }
         ensures most { OnOk result (length w.new ≤ length w.old + 18) }
         ensures memory { OnErr result (Grows w.old w.new) }
@@ -193,7 +193,7 @@ impl RunCode {
 
     /// The longest run.
     pub(crate) fn longest(self) -> u32
-        ensures { result ≡ longest self }
+        ensures { result ≡ longest (run_form self) }
     {
         match self {
             RunCode::Long => 4_129,
@@ -203,7 +203,7 @@ impl RunCode {
 
     /// Whether the run behind a run of this length has a value of its own.
     pub(crate) fn is_renewed(self, run: u32) -> bool
-        ensures { result ≡ is_renewed self run }
+        ensures { result ≡ is_renewed (run_form self) run }
     {
         match self {
             RunCode::Long => run == 4_129,
@@ -213,7 +213,7 @@ impl RunCode {
 
     /// Reads the length of a run.
     pub(crate) fn read_run(self, r: &mut BitReader) -> Result<u32, PacketFault>
-        ensures value { Gives (λ v. v) result r.new.left (run_of self r.old.left) }
+        ensures value { Gives (λ v. v) result r.new.left (run_of (run_form self) r.old.left) }
         ensures some { IfOk result (λ v. 0 < v) }
         ensures small { IfOk result (λ v. v < 2 ^ 16) }
         ensures end { SameEnd r.old r.new }
@@ -232,7 +232,7 @@ impl RunCode {
         run: u32,
         value: bool,
     ) -> Result<bool, PacketFault>
-        ensures value { Gives (λ v. v) result r.new.left (next_value self run value r.old.left) }
+        ensures value { Gives (λ v. v) result r.new.left (next_value (run_form self) run value r.old.left) }
         ensures end { SameEnd r.old r.new }
     {
         if self.is_renewed(run) {

@@ -1,7 +1,7 @@
 use Rattle.std.proofs.Common.{◌≡◌, ◌∙◌, ◌+◌, ◌++◌, ◌∷◌, [], arith, drop, false, get_or, List, Bool, refl, sym, take, true}
 use Rattle.std.proofs.lemmas.List.{append_assoc, take_all, take_more}
 use Rattle.vid_geom.specs.Squares.{joined}
-use Rattle.thr_flags.specs.declared.runs.RunCode.TheVariants.{Short}
+use Rattle.thr_flags.specs.RunStrings.{Short}
 use Rattle.thr_flags.specs.Flags.{sizes_of}
 use Rattle.thr_flags.specs.WrittenFlags.{single_in, is_partial, parts}
 use Rattle.thr_flags.proofs.PartLemmas.{all_parts, single_next, single_same, single_split, small_superblocks}
