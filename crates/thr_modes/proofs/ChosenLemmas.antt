@@ -6,7 +6,7 @@ use Rattle.std.proofs.lemmas.Int.{ints}
 use Rattle.std.proofs.lemmas.List.Elements.{All-tail}
 use Rattle.vid_base.specs.declared.shape.Shape.{Shape}
 use Rattle.vid_base.specs.Reading.{one_bit}
-use Rattle.thr_modes.specs.declared.component.VectorCoding.TheVariants.{Fixed}
+use Rattle.thr_modes.specs.Forms.{Fixed}
 use Rattle.thr_modes.specs.Chosen.{AreChosen, AreChosenFrom, IsChosen, IsVector, StillWhereUncoded, memory_behind, motion_for}
 use Rattle.thr_modes.specs.InOrder.{CanBeRead, each}
 use Rattle.thr_modes.specs.LumaFlags.{macro_flags}

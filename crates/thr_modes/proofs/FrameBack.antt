@@ -18,8 +18,7 @@ use Rattle.vid_geom.specs.MacroBlocks.{Area, area_blocks, macro_blocks, macro_or
 use Rattle.vid_geom.proofs.ListLemmas.{All-at}
 use Rattle.vid_geom.proofs.MacroBlockLemmas.{macro_order_names_each_once}
 use Rattle.vid_geom.proofs.OrderLemmas.{at_place}
-use Rattle.thr_modes.specs.declared.component.VectorCoding.{VectorCoding}
-use Rattle.thr_modes.specs.declared.component.VectorCoding.TheVariants.{Fixed}
+use Rattle.thr_modes.specs.Forms.{VectorForm, Fixed}
 use Rattle.thr_modes.specs.Chosen.{IsVector}
 use Rattle.thr_modes.specs.LumaFlags.{macro_flags}
 use Rattle.thr_modes.specs.Vectors.{Offset, offset_of, still}
@@ -103,7 +102,7 @@ abbrev CodedBack : Shape → List Bool → List ℕ → List Offset × List Bool
 CodedBack s flags modes read =
     All IsVector read.0 → (more : List Bool) → coded_vectors Fixed s flags modes (motions_code modes (macro_flags s flags) (macro_vectors s read.0) ++ more) ≡ Ok (read.0, more)
 
-coded_back : (coding : VectorCoding) (s : Shape) (flags : List Bool) (modes : List ℕ) (bits : List Bool) → length modes ≡ length (macro_blocks s) → IfOk (coded_vectors coding s flags modes bits) (CodedBack s flags modes)
+coded_back : (coding : VectorForm) (s : Shape) (flags : List Bool) (modes : List ℕ) (bits : List Bool) → length modes ≡ length (macro_blocks s) → IfOk (coded_vectors coding s flags modes bits) (CodedBack s flags modes)
 unfolding coded_vectors
 coded_back coding s flags modes bits count =
     go (motions coding s.pf modes (macro_flags s flags) empty bits) (motions_have coding s.pf modes (macro_flags s flags) empty bits (flags_long s flags ∙ sym count) (four_flags s flags)) (motions_back coding s.pf modes (macro_flags s flags) empty bits)

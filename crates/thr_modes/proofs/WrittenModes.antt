@@ -8,7 +8,7 @@ use Rattle.vid_base.specs.Reading.{field}
 use Rattle.vid_base.specs.Writing.{ReadsBack}
 use Rattle.vid_base.specs.declared.shape.Shape.{Shape}
 use Rattle.vid_base.proofs.NumberLemmas.{take-digits}
-use Rattle.thr_modes.specs.declared.alphabet.ModeCoding.TheVariants.{Plain}
+use Rattle.thr_modes.specs.Forms.{Plain}
 use Rattle.thr_modes.specs.InOrder.{each}
 use Rattle.thr_modes.specs.LumaFlags.{macro_flags, some_coded}
 use Rattle.thr_modes.specs.Modes.{coding_of, mode_in, macro_mode, modes_of, ZeroWhereUncoded}

@@ -1,4 +1,5 @@
 pub mod InOrder
+pub mod Forms
 pub mod LumaFlags
 pub mod Modes
 pub mod Motion

@@ -3,8 +3,7 @@ use Rattle.std.specs.Prelude.{ℕ, ℤ, pos, negsuc, neg_ℤ, ◌≤ℤ◌, ◌+
 use Rattle.vid_base.specs.declared.shape.Vector.{Vector}
 use Rattle.vid_base.specs.declared.fault.PacketFault.{PacketFault}
 use Rattle.vid_base.specs.Reading.{field, one_bit, ◌>>=◌}
-use Rattle.thr_modes.specs.declared.component.VectorCoding.{VectorCoding}
-use Rattle.thr_modes.specs.declared.component.VectorCoding.TheVariants.{Prefixed, Fixed}
+use Rattle.thr_modes.specs.Forms.{VectorForm, Prefixed, Fixed}
 
 -- a motion vector: how far to the right and how far upwards
 pub record Offset : Type 0 where
@@ -44,10 +43,10 @@ prefixed bits = field 3 bits >>= (λ prefix.
     else sized 16 4 prefix.1)
 
 -- a component: under MVMODE 1 its size has 5 bits
-unfoldable pub component : VectorCoding → List Bool → Result (ℤ × List Bool) PacketFault
+unfoldable pub component : VectorForm → List Bool → Result (ℤ × List Bool) PacketFault
 component Prefixed bits = prefixed bits
 component Fixed bits = sized 0 5 bits
 
 -- a vector: its component to the right, and then the one upwards
-unfoldable pub vector_in : VectorCoding → List Bool → Result (Offset × List Bool) PacketFault
+unfoldable pub vector_in : VectorForm → List Bool → Result (Offset × List Bool) PacketFault
 vector_in coding bits = component coding bits >>= (λ x. component coding x.1 >>= (λ y. Ok (record { x = x.0; y = y.0 }, y.1)))

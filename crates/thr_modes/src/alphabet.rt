@@ -4,6 +4,7 @@ ghost use Rattle.std.specs.List.{list_any, position};
 ghost use Rattle.vid_base.specs.Reading.{Gives, SameEnd, field};
 ghost use Rattle.vid_base.specs.Items.{items};
 ghost use Rattle.thr_modes.specs.Modes.{mode_with, by_rank, own_alphabet, coding_of, rank_in, mode_in};
+ghost use Rattle.thr_modes.specs.Views.{mode_form};
 
 use crate::field::read_field;
 use vid_base::{BitReader, PacketFault};
@@ -90,7 +91,7 @@ fn read_alphabet(r: &mut BitReader) -> Result<[u8; 8], PacketFault>
 #[tactic(auto, unfolding(crate::specs::Modes::coding_of))]
 pub fn read_coding(r: &mut BitReader, scheme: u32) -> Result<ModeCoding, PacketFault>
     requires { scheme < 8 }
-    ensures value { Gives (λ coding. coding) result r.new.left (coding_of scheme r.old.left) }
+    ensures value { Gives mode_form result r.new.left (coding_of scheme r.old.left) }
     ensures end { SameEnd r.old r.new }
 {
     match scheme {
@@ -118,7 +119,7 @@ fn read_rank(r: &mut BitReader) -> Result<usize, PacketFault>
 /// A mode.
 #[tactic(auto, unfolding(crate::specs::Modes::mode_in))]
 pub fn read_mode(r: &mut BitReader, coding: &ModeCoding) -> Result<u8, PacketFault>
-    ensures value { Gives (λ mode. mode) result r.new.left (mode_in coding.now r.old.left) }
+    ensures value { Gives (λ mode. mode) result r.new.left (mode_in (mode_form coding.now) r.old.left) }
     ensures end { SameEnd r.old r.new }
 {
     match coding {

@@ -4,6 +4,7 @@ ghost use Rattle.vid_base.specs.Reading.{Gives, SameEnd};
 ghost use Rattle.vid_base.specs.Writing.{AddsBit, Grows};
 ghost use Rattle.thr_modes.specs.Vectors.{signed, sized, prefixed, component, vector_in, offset_of, IsComponent};
 ghost use Rattle.thr_modes.specs.WrittenVectors.{component_code, vector_code};
+ghost use Rattle.thr_modes.specs.Views.{vector_form};
 
 use crate::field::read_field;
 use vid_base::{BitReader, BitWriter, NoMem, PacketFault, Vector};
@@ -60,7 +61,7 @@ fn read_prefixed(r: &mut BitReader) -> Result<i8, PacketFault>
 // A component.
 #[tactic(auto, unfolding(crate::specs::Vectors::component))]
 fn read_component(r: &mut BitReader, coding: VectorCoding) -> Result<i8, PacketFault>
-    ensures value { Gives (λ component. component) result r.new.left (component coding r.old.left) }
+    ensures value { Gives (λ component. component) result r.new.left (component (vector_form coding) r.old.left) }
     ensures small { IfOk result IsComponent }
     ensures end { SameEnd r.old r.new }
 {
@@ -73,7 +74,7 @@ fn read_component(r: &mut BitReader, coding: VectorCoding) -> Result<i8, PacketF
 /// A vector: its component to the right, and then the one upwards.
 #[tactic(auto, unfolding(crate::specs::Vectors::vector_in, crate::specs::Vectors::offset_of))]
 pub fn read_vector(r: &mut BitReader, coding: VectorCoding) -> Result<Vector, PacketFault>
-    ensures value { Gives offset_of result r.new.left (vector_in coding r.old.left) }
+    ensures value { Gives offset_of result r.new.left (vector_in (vector_form coding) r.old.left) }
     ensures end { SameEnd r.old r.new }
 {
     let x = read_component(r, coding)?;

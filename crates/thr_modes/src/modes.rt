@@ -8,6 +8,7 @@ ghost use Rattle.thr_modes.specs.InOrder.{each};
 ghost use Rattle.thr_modes.specs.LumaFlags.{macro_flags, some_coded};
 ghost use Rattle.thr_modes.specs.Written.{mode_code, modes_code};
 ghost use Rattle.thr_modes.specs.Modes.{macro_mode, modes_of, ZeroWhereUncoded};
+ghost use Rattle.thr_modes.specs.Views.{mode_form};
 
 use crate::alphabet::{ModeCoding, read_coding, read_mode};
 use crate::luma::luma_flags;
@@ -28,7 +29,7 @@ fn read_macro_mode(
     coding: &ModeCoding,
     luma: [bool; 4],
 ) -> Result<u8, PacketFault>
-    ensures value { Gives (λ mode. mode) result r.new.left (macro_mode coding.now luma r.old.left) }
+    ensures value { Gives (λ mode. mode) result r.new.left (macro_mode (mode_form coding.now) luma r.old.left) }
     ensures end { SameEnd r.old r.new }
 {
     if some_coded(luma) {
@@ -49,7 +50,7 @@ fn read_macro_modes(
 ) -> Result<(), PacketFault>
     requires flags { length flags.now ≡ length (order_of geom.now) }
     requires modes { length modes.old ≡ length (macro_blocks geom.now) }
-    ensures value { Gives (λ _. modes.new) result r.new.left (each (macro_mode coding.now) (macro_flags geom.now flags.now) r.old.left) }
+    ensures value { Gives (λ _. modes.new) result r.new.left (each (macro_mode (mode_form coding.now)) (macro_flags geom.now flags.now) r.old.left) }
     ensures end { SameEnd r.old r.new }
 {
     'macro_blocks: for m in 0..geom.macro_blocks() {

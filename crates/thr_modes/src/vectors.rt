@@ -5,6 +5,7 @@ ghost use Rattle.vid_geom.specs.CodedOrder.{order_of};
 ghost use Rattle.vid_geom.specs.MacroBlocks.{macro_blocks};
 ghost use Rattle.thr_modes.specs.Vectors.{offset_of};
 ghost use Rattle.thr_modes.specs.Motion.{coded_vectors, vector_coding, vectors_of};
+ghost use Rattle.thr_modes.specs.Views.{vector_form};
 
 use crate::component::VectorCoding;
 use crate::luma::flags_at;
@@ -16,7 +17,7 @@ use vid_geom::Geom;
 // How vectors are coded under MVMODE.
 #[tactic(auto, unfolding(crate::specs::Motion::vector_coding))]
 fn vector_coding(mvmode: bool) -> VectorCoding
-    ensures { result ≡ vector_coding mvmode }
+    ensures { vector_form result ≡ vector_coding mvmode }
 {
     if mvmode {
         VectorCoding::Fixed
@@ -37,7 +38,7 @@ fn read_coded_vectors(
     requires flags { length flags.now ≡ length (order_of geom.now) }
     requires modes { length modes.now ≡ length (macro_blocks geom.now) }
     requires vectors { length vectors.old ≡ length (order_of geom.now) }
-    ensures value { Gives (λ _. map offset_of vectors.new) result r.new.left (coded_vectors coding geom.now flags.now modes.now r.old.left) }
+    ensures value { Gives (λ _. map offset_of vectors.new) result r.new.left (coded_vectors (vector_form coding) geom.now flags.now modes.now r.old.left) }
     ensures end { SameEnd r.old r.new }
 {
     let pf = geom.shape().pf;

@@ -7,7 +7,7 @@ use Rattle.vid_geom.specs.MacroBlocks.{Area, IsMacroBlock, macro_blocks}
 use Rattle.thr_modes.specs.Placing.{put_motion}
 use Rattle.thr_modes.specs.LumaFlags.{macro_flags}
 use Rattle.thr_modes.specs.Vectors.{offset_of}
-use Rattle.thr_modes.specs.Views.{memory_of, motion_of}
+use Rattle.thr_modes.specs.Views.{vector_form, memory_of, motion_of}
 use Rattle.thr_modes.proofs.AreaLemmas.{few_chroma, numbers_are, sizes_at}
 use Rattle.thr_modes.proofs.FoldLemmas.{motions_first, motions_more, motions_fault, motions_done}
 use Rattle.thr_modes.proofs.LumaLemmas.{All-left, are_luma, luma_flags_at}
@@ -16,7 +16,7 @@ use Rattle.thr_modes.proofs.vectors.read_coded_vectors.Goals as goal
 pub macro_blocks-init : goal.macro_blocks-init
 macro_blocks-init c =
     let s = c.args.geom.now in
-    let first = motions_first c.args.coding s c.args.flags.now c.args.modes.now (map offset_of c.args.vectors.now) c.args.r.now.left (length-map c.args.vectors.now offset_of ∙ c.requires.vectors) c.requires.modes in
+    let first = motions_first (vector_form c.args.coding) s c.args.flags.now c.args.modes.now (map offset_of c.args.vectors.now) c.args.r.now.left (length-map c.args.vectors.now offset_of ∙ c.requires.vectors) c.requires.modes in
     record { read = rw c.empty-remembered.ensures first; end = refl }
 
 pub returns-in_err-motion-clause-value : goal.returns-in_err-motion-clause-value
@@ -29,7 +29,7 @@ returns-in_err-motion-clause-value c =
     let luma : slice_get (macro_flags s c.args.flags.now) m ≡ Some c.flags_at-luma.result = rw c.flags_at-luma.ensures (luma_flags_at s c.args.flags.now m c.macro_block-numbers.result.luma (are_luma s m c.macro_block-numbers.result c.macro_block-numbers.ensures.value)) in
     rw (p.1, p.2)
     (sym c.macro_blocks.invariant.read
-    ∙ motions_fault c.args.coding s c.args.modes.now (macro_flags s c.args.flags.now) (macro_blocks s) (map offset_of c.macro_blocks.vectors) m (get_or c.args.modes.now m 0) c.flags_at-luma.result (memory_of c.macro_blocks.remembered) c.macro_blocks.r.left c.in_err-motion.field-0.0 mode luma read)
+    ∙ motions_fault (vector_form c.args.coding) s c.args.modes.now (macro_flags s c.args.flags.now) (macro_blocks s) (map offset_of c.macro_blocks.vectors) m (get_or c.args.modes.now m 0) c.flags_at-luma.result (memory_of c.macro_blocks.remembered) c.macro_blocks.r.left c.in_err-motion.field-0.0 mode luma read)
 
 pub macro_blocks-preserved : goal.macro_blocks-preserved
 unfolding put_motion
@@ -47,7 +47,7 @@ macro_blocks-preserved c =
     let motion = motion_of s.pf c.in_ok-motion.motion in
     record {
       read = rw (c.put_motion.ensures s.pf c.macro_block-numbers.ensures.count, numbers_are s area numbers (sizes_at s m area at) is)
-          (motions_more c.args.coding s c.args.modes.now (macro_flags s c.args.flags.now) (macro_blocks s) (map offset_of c.macro_blocks.vectors) m (get_or c.args.modes.now m 0) c.flags_at-luma.result area (memory_of c.macro_blocks.remembered) (memory_of c.in_ok-motion.next) motion c.macro_blocks.r.left c.read_motion.new.r.left mode luma at read
+          (motions_more (vector_form c.args.coding) s c.args.modes.now (macro_flags s c.args.flags.now) (macro_blocks s) (map offset_of c.macro_blocks.vectors) m (get_or c.args.modes.now m 0) c.flags_at-luma.result area (memory_of c.macro_blocks.remembered) (memory_of c.in_ok-motion.next) motion c.macro_blocks.r.left c.read_motion.new.r.left mode luma at read
           ∙ c.macro_blocks.invariant.read);
       end = search rules;
     }
@@ -56,7 +56,7 @@ pub returns-clause-value : goal.returns-clause-value
 returns-clause-value c =
     let s = c.args.geom.now in
     sym c.macro_blocks.invariant.read
-    ∙ motions_done c.args.coding s c.args.modes.now (macro_flags s c.args.flags.now) (macro_blocks s) (map offset_of c.macro_blocks.vectors) c.macro_blocks.m (memory_of c.macro_blocks.remembered) c.macro_blocks.r.left (omega (arith, c.requires.modes)) (omega arith)
+    ∙ motions_done (vector_form c.args.coding) s c.args.modes.now (macro_flags s c.args.flags.now) (macro_blocks s) (map offset_of c.macro_blocks.vectors) c.macro_blocks.m (memory_of c.macro_blocks.remembered) c.macro_blocks.r.left (omega (arith, c.requires.modes)) (omega arith)
 
 pub flags_at-luma-requires : goal.flags_at-luma-requires
 flags_at-luma-requires c =
