@@ -1,19 +1,20 @@
 -- The flags of a frame as those of its superblocks: one superblock more of each string, and that the strings say the flags.
-use Rattle.std.proofs.Common.{arith, ◌≡◌, ◌∙◌, ◌+◌, ◌-◌, ◌<◌, ◌≤◌, ℕ, zero, suc, Bool, true, false, not, ◌&&◌, List, [], ◌∷◌, ◌++◌, length, get_or, take, drop, map, Some, slice_get, sym, ap, refl, append_assoc, length-append, Ok}
+use Rattle.std.proofs.Common.{arith, ◌≡◌, ◌∙◌, ◌+◌, ◌*◌, ◌-◌, ◌<◌, ◌≤◌, ℕ, zero, suc, Bool, true, false, not, ◌&&◌, List, [], ◌∷◌, ◌++◌, length, get_or, take, drop, map, Some, slice_get, sym, ap, refl, append_assoc, length-append, Ok}
 use Rattle.std.specs.List.{All, filter, list_any}
 use Rattle.std.specs.Prelude.{replicate, sum}
 use Rattle.std.proofs.lemmas.Bool.{false≢true}
 use Rattle.std.proofs.lemmas.List.{append-nil, drop-drop, drop_at, drop_more, length-drop, length-map, length-take, map-append, nil_from_length, take-append-drop, take_all, take_at, take_more}
 use Rattle.std.proofs.lemmas.List.Elements.{All-cons, All-head, All-map, All-nil, All-tail, filter-append}
-use Rattle.std.proofs.lemmas.List.Sums.{length-filter, sum_by-cons}
+use Rattle.std.proofs.lemmas.List.Sums.{count_by-le-length, length-filter, sum_by-cons}
 use Rattle.std.proofs.lemmas.Option.{get_or_from_slice_get, slice_get_within}
 use Rattle.vid_base.specs.declared.shape.Shape.{Shape}
 use Rattle.vid_geom.specs.declared.block.Block.{Block}
 use Rattle.vid_geom.specs.Squares.{joined}
 use Rattle.vid_geom.specs.CodedOrder.{order_of, superblocks}
 use Rattle.vid_geom.proofs.ListLemmas.{filter-map, joined-append}
-use Rattle.thr_flags.specs.declared.runs.RunCode.TheVariants.{Long, Short}
-use Rattle.thr_flags.specs.Writing.{AddsString, ReadsBack}
+use Rattle.thr_flags.specs.RunStrings.{Long, Short}
+use Rattle.vid_base.specs.Writing.{ReadsBack}
+use Rattle.thr_flags.specs.Writing.{AddsString, most_bits}
 use Rattle.thr_flags.specs.Flags.{count_whole, flags_of, partial_blocks, sizes_of, spread}
 use Rattle.thr_flags.specs.WrittenFlags.{fully_in, is_partial, partly_in, parts, parts_of, single_in}
 use Rattle.thr_flags.proofs.FlagLemmas.{get_or-lengths, length-sizes_of, size_at}
@@ -199,3 +200,22 @@ flags_back s flags old first second new h a b c =
           let bits : (a.more ++ b.more ++ c.more) ++ rest ≡ a.more ++ (b.more ++ (c.more ++ rest)) = append_assoc (a.more ++ b.more) c.more rest ∙ append_assoc a.more b.more (c.more ++ rest) in
           rw (bits, length-partly_in s flags, a.reads (b.more ++ (c.more ++ rest)), n, b.reads (c.more ++ rest), m, c.reads rest) (ap (λ z. Ok (z, rest)) (spread_parts (sizes_of s) flags whole));
     }
+
+-- the strings of the flags have few values, and so few bits
+parted : (sizes : List ℕ) (flags : List Bool) → length (single_in (parts sizes flags)) ≤ length flags
+unfolding single_in parts joined
+parted [] flags = omega arith
+parted (n ∷ sizes) flags = go (is_partial (take n flags)) refl (parted sizes (drop n flags))
+  where
+    rest : List (List Bool)
+    rest = parts sizes (drop n flags)
+
+    go : (b : Bool) → is_partial (take n flags) ≡ b → length (single_in rest) ≤ length (drop n flags) → length (single_in (take n flags ∷ rest)) ≤ length flags
+    go true e i = rw e (omega (arith, i, length-append (take n flags) (single_in rest), length-append (take n flags) (drop n flags), ap length (take-append-drop n flags)))
+    go false e i = rw e (omega (arith, i, length-append (take n flags) (drop n flags), ap length (take-append-drop n flags)))
+
+pub flags_few : (s : Shape) (flags : List Bool) (a b c d : ℕ) → length flags ≡ length (order_of s)
+    → b ≤ a + most_bits (length (partly_in (parts_of s flags))) → c ≤ b + most_bits (length (fully_in (parts_of s flags))) → d ≤ c + most_bits (length (single_in (parts_of s flags)))
+    → d ≤ a + (3 + 4 * length (superblocks s) + 2 * length (order_of s))
+flags_few s flags a b c d h x y z =
+    omega (arith, h, x, y, z, length-partly_in s flags, length-fully_in (parts (sizes_of s) flags), count_by-le-length not (partly_in (parts (sizes_of s) flags)), parted (sizes_of s) flags)

@@ -1,7 +1,6 @@
 // The coded flags of a frame are read (Theora I, 7.3).
-ghost use Rattle.std.specs.Prelude.{◌≡◌, ◌≤◌, ◌+◌, ◌*◌, ◌++◌, [], length, take, OnErr, OnOk, Err};
-ghost use Rattle.vid_base.specs.Reading.{Gives, GivesOrNoMem};
-ghost use Rattle.vid_base.specs.declared.fault.Refusal.TheVariants.{NoMem};
+ghost use Rattle.std.specs.Prelude.{◌≡◌, ◌≤◌, ◌+◌, ◌*◌, ◌++◌, [], length, take, OnErr, OnOk};
+ghost use Rattle.vid_base.specs.Reading.{Gives, GivesOrNoMem, KeptOnNoMem, SameEnd};
 ghost use Rattle.vid_geom.specs.CodedOrder.{order_of, superblocks};
 ghost use Rattle.thr_flags.specs.Flags.{count_whole, flags_of, partial_blocks, sizes_of, spread};
 
@@ -77,6 +76,7 @@ pub fn read_flags_in(
     requires flags { length flags.old ≡ length (order_of geom.now) }
     requires work { 2 * length (superblocks geom.now) + length (order_of geom.now) ≤ length work.old }
     ensures value { Gives (λ _. flags.new) result r.new.left (flags_of geom.now r.old.left) }
+    ensures end { SameEnd r.old r.new }
 {
     let (partly, rest) = work.split_at_mut(geom.superblocks() as usize);
     read_long_in(r, partly)?;
@@ -88,14 +88,15 @@ pub fn read_flags_in(
     Ok(())
 }
 
-/// Reads which blocks of a frame are coded, one flag for each block in coded order, into the list, which is emptied first
-/// (Theora I, 7.3). The first fault is `Ended`, or `RunTooLong` where a run passes the end of one of the three strings.
+/// Reads which blocks of a frame are coded, one flag for each block in coded order, into the list, in place
+/// of those that it has (Theora I, 7.3). The first fault is `Ended`, or `RunTooLong` where a run passes the end of one of the three strings.
 /// After a refusal the list is empty; after `NoMem` the reader stands where it stood.
 pub fn read_flags(r: &mut BitReader, geom: &Geom, flags: &mut Vec<bool>) -> Result<(), Refusal>
     ensures value { GivesOrNoMem (λ _. flags.new.items) result r.new.left (flags_of geom.now r.old.left) }
     ensures sized { OnOk result (length flags.new.items ≡ length (order_of geom.now)) }
     ensures refused { OnErr result (flags.new.items ≡ []) }
-    ensures memory { result ≡ Err NoMem → r.new ≡ r.old }
+    ensures memory { KeptOnNoMem result r.old r.new }
+    ensures end { SameEnd r.old r.new }
 {
     let blocks = geom.blocks() as usize;
     size(flags, 2 * (blocks + geom.superblocks() as usize))?;

@@ -1,11 +1,12 @@
 // The coded flags of a frame are written (Theora I, 7.3).
-ghost use Rattle.std.specs.Prelude.{◌≡◌, ◌<◌, not, length, slice_get, OnErr, OnOk, Some};
+ghost use Rattle.std.specs.Prelude.{◌≡◌, ◌+◌, ◌*◌, ◌<◌, ◌≤◌, not, length, slice_get, OnErr, OnOk, Some};
 ghost use Rattle.std.specs.List.{list_any};
 ghost use Rattle.vid_geom.specs.CodedOrder.{order_of, superblocks};
 ghost use Rattle.thr_flags.specs.Flags.{flags_of};
 ghost use Rattle.thr_flags.specs.WrittenFlags.{fully_in, is_partial, partly_in, parts_of, single_in};
-ghost use Rattle.thr_flags.specs.Writing.{AddsString, Grows, ReadsBack};
-ghost use Rattle.thr_flags.specs.declared.runs.RunCode.TheVariants.{Long, Short};
+ghost use Rattle.vid_base.specs.Writing.{Grows, ReadsBack};
+ghost use Rattle.thr_flags.specs.Writing.{AddsString, most_bits};
+ghost use Rattle.thr_flags.specs.RunStrings.{Long, Short};
 
 use crate::runs::RunCode;
 use crate::writing::{close, push};
@@ -50,6 +51,7 @@ fn part_of<'a>(geom: &Geom, flags: &'a [bool], s: u32) -> &'a [bool]
 fn write_partly(w: &mut BitWriter, geom: &Geom, flags: &[bool]) -> Result<(), NoMem>
     requires { length flags.now ≡ length (order_of geom.now) }
     ensures reads_back { OnOk result (AddsString Long (partly_in (parts_of geom.now flags.now)) w.old w.new) }
+    ensures few { OnOk result (length w.new ≤ length w.old + most_bits (length (partly_in (parts_of geom.now flags.now)))) }
     ensures memory { OnErr result (Grows w.old w.new) }
 {
     let mut last = None;
@@ -64,6 +66,7 @@ fn write_partly(w: &mut BitWriter, geom: &Geom, flags: &[bool]) -> Result<(), No
 fn write_fully(w: &mut BitWriter, geom: &Geom, flags: &[bool]) -> Result<(), NoMem>
     requires { length flags.now ≡ length (order_of geom.now) }
     ensures reads_back { OnOk result (AddsString Long (fully_in (parts_of geom.now flags.now)) w.old w.new) }
+    ensures few { OnOk result (length w.new ≤ length w.old + most_bits (length (fully_in (parts_of geom.now flags.now)))) }
     ensures memory { OnErr result (Grows w.old w.new) }
 {
     let mut last = None;
@@ -80,6 +83,7 @@ fn write_fully(w: &mut BitWriter, geom: &Geom, flags: &[bool]) -> Result<(), NoM
 fn write_single(w: &mut BitWriter, geom: &Geom, flags: &[bool]) -> Result<(), NoMem>
     requires { length flags.now ≡ length (order_of geom.now) }
     ensures reads_back { OnOk result (AddsString Short (single_in (parts_of geom.now flags.now)) w.old w.new) }
+    ensures few { OnOk result (length w.new ≤ length w.old + most_bits (length (single_in (parts_of geom.now flags.now)))) }
     ensures memory { OnErr result (Grows w.old w.new) }
 {
     let mut last = None;
@@ -100,6 +104,7 @@ fn write_single(w: &mut BitWriter, geom: &Geom, flags: &[bool]) -> Result<(), No
 pub fn write_flags(w: &mut BitWriter, geom: &Geom, flags: &[bool]) -> Result<(), NoMem>
     requires { length flags.now ≡ length (order_of geom.now) }
     ensures reads_back { OnOk result (ReadsBack (flags_of geom.now) flags.now w.old w.new) }
+    ensures few { OnOk result (length w.new ≤ length w.old + (3 + 4 * length (superblocks geom.now) + 2 * length (order_of geom.now))) }
     ensures memory { OnErr result (Grows w.old w.new) }
 {
     write_partly(w, geom, flags)?;

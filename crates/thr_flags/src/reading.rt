@@ -1,8 +1,9 @@
 // Run strings are read (Theora I, 7.2).
 ghost use Rattle.std.specs.Prelude.{◌≡◌, ◌≤◌, ◌<◌, ◌+◌, ◌^◌, ◌++◌, [], length, replicate, take, OnErr, OnOk, Err};
-ghost use Rattle.vid_base.specs.Reading.{Gives, GivesOrNoMem};
+ghost use Rattle.vid_base.specs.Reading.{Gives, GivesOrNoMem, KeptOnNoMem, SameEnd};
 ghost use Rattle.vid_base.specs.declared.fault.Refusal.TheVariants.{NoMem};
 ghost use Rattle.thr_flags.specs.RunStrings.{long_string, run_string, short_string, values};
+ghost use Rattle.thr_flags.specs.Views.{run_form};
 
 use crate::runs::RunCode;
 use vid_base::{BitReader, PacketFault, Refusal};
@@ -27,7 +28,8 @@ fn read_runs(
     requires some { 0 < length into.old }
     requires small { first_run < 2 ^ 16 }
     requires run { 0 < first_run }
-    ensures { Gives (λ _. into.new) result r.new.left (values code (length into.old) first_run first_run first r.old.left) }
+    ensures value { Gives (λ _. into.new) result r.new.left (values (run_form code) (length into.old) first_run first_run first r.old.left) }
+    ensures end { SameEnd r.old r.new }
 {
     let mut value = first;
     let mut run = first_run;
@@ -50,7 +52,8 @@ pub(crate) fn read_string(
     code: RunCode,
     into: &mut [bool],
 ) -> Result<(), PacketFault>
-    ensures { Gives (λ _. into.new) result r.new.left (run_string code (length into.old) r.old.left) }
+    ensures value { Gives (λ _. into.new) result r.new.left (run_string (run_form code) (length into.old) r.old.left) }
+    ensures end { SameEnd r.old r.new }
 {
     if into.is_empty() {
         return Ok(());
@@ -64,6 +67,7 @@ pub(crate) fn read_string(
 /// `RunTooLong` where a run whose bits were all read passes the end of the slice; then the slice's values are open.
 pub fn read_long_in(r: &mut BitReader, into: &mut [bool]) -> Result<(), PacketFault>
     ensures value { Gives (λ _. into.new) result r.new.left (long_string (length into.old) r.old.left) }
+    ensures end { SameEnd r.old r.new }
 {
     read_string(r, RunCode::Long, into)
 }
@@ -71,18 +75,21 @@ pub fn read_long_in(r: &mut BitReader, into: &mut [bool]) -> Result<(), PacketFa
 /// Reads a short run string (Theora I, 7.2.2), otherwise as `read_long_in`.
 pub fn read_short_in(r: &mut BitReader, into: &mut [bool]) -> Result<(), PacketFault>
     ensures value { Gives (λ _. into.new) result r.new.left (short_string (length into.old) r.old.left) }
+    ensures end { SameEnd r.old r.new }
 {
     read_string(r, RunCode::Short, into)
 }
 
-/// Makes the list as many values long.
+/// Makes the list as many values long. Those that it has stay, to be read over.
 pub(crate) fn size(into: &mut Vec<bool>, n: usize) -> Result<(), Refusal>
     ensures sized { OnOk result (length into.new.items ≡ n) }
     ensures refused { OnErr result (into.new.items ≡ []) }
     ensures memory { OnErr result (result ≡ Err NoMem) }
 {
-    into.clear();
-    into.resize(n, false)?;
+    if into.resize(n, false).is_err() {
+        into.clear();
+        return Err(Refusal::NoMem);
+    }
     Ok(())
 }
 
@@ -93,9 +100,10 @@ fn read_string_into(
     n: u32,
     into: &mut Vec<bool>,
 ) -> Result<(), Refusal>
-    ensures value { GivesOrNoMem (λ _. into.new.items) result r.new.left (run_string code n r.old.left) }
+    ensures value { GivesOrNoMem (λ _. into.new.items) result r.new.left (run_string (run_form code) n r.old.left) }
     ensures refused { OnErr result (into.new.items ≡ []) }
-    ensures memory { result ≡ Err NoMem → r.new ≡ r.old }
+    ensures memory { KeptOnNoMem result r.old r.new }
+    ensures end { SameEnd r.old r.new }
 {
     size(into, n as usize)?;
     if let Err(fault) = read_string(r, code, into) {
@@ -105,12 +113,13 @@ fn read_string_into(
     Ok(())
 }
 
-/// Reads a long run string of n values into the list, which is emptied first (Theora I, 7.2.1). The first fault is
+/// Reads a long run string of n values into the list in place of those that it has (Theora I, 7.2.1). The first fault is
 /// `Ended`, or `RunTooLong` where a run whose bits were all read passes n. After a refusal the list is empty.
 pub fn read_long(r: &mut BitReader, n: u32, into: &mut Vec<bool>) -> Result<(), Refusal>
     ensures value { GivesOrNoMem (λ _. into.new.items) result r.new.left (long_string n r.old.left) }
     ensures refused { OnErr result (into.new.items ≡ []) }
-    ensures memory { result ≡ Err NoMem → r.new ≡ r.old }
+    ensures memory { KeptOnNoMem result r.old r.new }
+    ensures end { SameEnd r.old r.new }
 {
     read_string_into(r, RunCode::Long, n, into)
 }
@@ -119,7 +128,8 @@ pub fn read_long(r: &mut BitReader, n: u32, into: &mut Vec<bool>) -> Result<(), 
 pub fn read_short(r: &mut BitReader, n: u32, into: &mut Vec<bool>) -> Result<(), Refusal>
     ensures value { GivesOrNoMem (λ _. into.new.items) result r.new.left (short_string n r.old.left) }
     ensures refused { OnErr result (into.new.items ≡ []) }
-    ensures memory { result ≡ Err NoMem → r.new ≡ r.old }
+    ensures memory { KeptOnNoMem result r.old r.new }
+    ensures end { SameEnd r.old r.new }
 {
     read_string_into(r, RunCode::Short, n, into)
 }

@@ -1,10 +1,10 @@
 // The lengths of runs (Theora I, 7.2.1 and 7.2.2).
-ghost use Rattle.std.specs.Prelude.{◌≡◌, ◌≤◌, ◌<◌, ◌-◌, ◌^◌, ◌++◌, Bool, List, IfOk, OnErr, OnOk};
+ghost use Rattle.std.specs.Prelude.{◌≡◌, ◌≤◌, ◌<◌, ◌+◌, ◌-◌, ◌*◌, ◌^◌, ◌++◌, Bool, List, IfOk, OnErr, OnOk, length};
 ghost use Rattle.vid_base.specs.Bits.{digits};
-ghost use Rattle.vid_base.specs.Reading.{Gives, field};
-ghost use Rattle.thr_flags.specs.RunStrings.{is_renewed, longest, next_value, one_bit, run_from, run_of};
-ghost use Rattle.thr_flags.specs.Writing.{Grows, ReadsBack};
-ghost use Rattle.thr_flags.specs.declared.runs.RunCode.TheVariants.{Long, Short};
+ghost use Rattle.vid_base.specs.Reading.{Gives, SameEnd, field, one_bit};
+ghost use Rattle.thr_flags.specs.RunStrings.{is_renewed, longest, next_value, run_from, run_of, Long, Short};
+ghost use Rattle.vid_base.specs.Writing.{Grows, ReadsBack};
+ghost use Rattle.thr_flags.specs.Views.{run_form};
 
 use vid_base::{BitReader, BitWriter, NoMem, PacketFault};
 
@@ -18,9 +18,10 @@ pub(crate) enum RunCode {
 }
 
 // The next bit.
-#[tactic(auto, unfolding(crate::specs::RunStrings::one_bit))]
+#[tactic(auto, unfolding(vid_base::specs::Reading::one_bit))]
 fn bit(r: &mut BitReader) -> Result<bool, PacketFault>
-    ensures { Gives (λ v. v) result r.new.left (one_bit r.old.left) }
+    ensures value { Gives (λ v. v) result r.new.left (one_bit r.old.left) }
+    ensures end { SameEnd r.old r.new }
 {
     Ok(r.bit()?)
 }
@@ -30,6 +31,7 @@ fn number(r: &mut BitReader, n: u32) -> Result<u32, PacketFault>
     requires { n ≤ 16 }
     ensures value { Gives (λ v. v) result r.new.left (field n r.old.left) }
     ensures small { IfOk result (λ v. v < 2 ^ n) }
+    ensures end { SameEnd r.old r.new }
 {
     Ok(r.take(n)?)
 }
@@ -41,6 +43,7 @@ fn run_from(r: &mut BitReader, least: u32, n: u32) -> Result<u32, PacketFault>
     ensures value { Gives (λ v. v) result r.new.left (run_from (least, n) r.old.left) }
     ensures some { IfOk result (λ v. 0 < v) }
     ensures small { IfOk result (λ v. v < 2 ^ 16) }
+    ensures end { SameEnd r.old r.new }
 {
     Ok(least + number(r, n)?)
 }
@@ -51,6 +54,7 @@ fn long_run(r: &mut BitReader) -> Result<u32, PacketFault>
     ensures value { Gives (λ v. v) result r.new.left (run_of Long r.old.left) }
     ensures some { IfOk result (λ v. 0 < v) }
     ensures small { IfOk result (λ v. v < 2 ^ 16) }
+    ensures end { SameEnd r.old r.new }
 {
     if !bit(r)? {
         return run_from(r, 1, 0);
@@ -79,6 +83,7 @@ fn short_run(r: &mut BitReader) -> Result<u32, PacketFault>
     ensures value { Gives (λ v. v) result r.new.left (run_of Short r.old.left) }
     ensures some { IfOk result (λ v. 0 < v) }
     ensures small { IfOk result (λ v. v < 2 ^ 16) }
+    ensures end { SameEnd r.old r.new }
 {
     if !bit(r)? {
         return run_from(r, 1, 1);
@@ -120,12 +125,13 @@ fn table_row(front: u32, width: u32, least: u32, n: u32) -> Row
 }
 
 // The row of a run of a long string.
-#[tactic(auto, unfolding(crate::specs::RunStrings::run_of, crate::specs::RunStrings::one_bit, vid_base::specs::Bits::digits))]
+#[tactic(auto, unfolding(crate::specs::RunStrings::run_of, vid_base::specs::Reading::one_bit, vid_base::specs::Bits::digits))]
 fn long_row(run: u32) -> Row
     requires { (0 < run) × (run ≤ 4129) }
     ensures front { (rest : List Bool) → run_of Long (digits result.width result.front ++ rest) ≡ run_from (result.least, result.n) rest }
     ensures within { (result.least ≤ run) × (run - result.least < 2 ^ result.n) }
     ensures small { (result.width ≤ 6) × (result.front < 2 ^ result.width) × (result.n ≤ 12) }
+    ensures few { result.width + result.n ≤ 2 * run }
 {
     match run {
         1 => table_row(0, 1, 1, 0),
@@ -139,12 +145,13 @@ fn long_row(run: u32) -> Row
 }
 
 // The row of a run of a short string.
-#[tactic(auto, unfolding(crate::specs::RunStrings::run_of, crate::specs::RunStrings::one_bit, vid_base::specs::Bits::digits))]
+#[tactic(auto, unfolding(crate::specs::RunStrings::run_of, vid_base::specs::Reading::one_bit, vid_base::specs::Bits::digits))]
 fn short_row(run: u32) -> Row
     requires { (0 < run) × (run ≤ 30) }
     ensures front { (rest : List Bool) → run_of Short (digits result.width result.front ++ rest) ≡ run_from (result.least, result.n) rest }
     ensures within { (result.least ≤ run) × (run - result.least < 2 ^ result.n) }
     ensures small { (result.width ≤ 6) × (result.front < 2 ^ result.width) × (result.n ≤ 12) }
+    ensures few { result.width + result.n ≤ 2 * run }
 {
     match run {
         1..=2 => table_row(0, 1, 1, 1),
@@ -159,10 +166,11 @@ fn short_row(run: u32) -> Row
 impl RunCode {
     // The row of a run.
     fn row_of(self, run: u32) -> Row
-        requires { (0 < run) × (run ≤ longest self) }
-        ensures front { (rest : List Bool) → run_of self (digits result.width result.front ++ rest) ≡ run_from (result.least, result.n) rest }
+        requires { (0 < run) × (run ≤ longest (run_form self)) }
+        ensures front { (rest : List Bool) → run_of (run_form self) (digits result.width result.front ++ rest) ≡ run_from (result.least, result.n) rest }
         ensures within { (result.least ≤ run) × (run - result.least < 2 ^ result.n) }
         ensures small { (result.width ≤ 6) × (result.front < 2 ^ result.width) × (result.n ≤ 12) }
+        ensures few { result.width + result.n ≤ 2 * run }
     {
         match self {
             RunCode::Long => long_row(run),
@@ -172,8 +180,10 @@ impl RunCode {
 
     /// Writes the length of a run.
     pub(crate) fn write_run(self, w: &mut BitWriter, run: u32) -> Result<(), NoMem>
-        requires { (0 < run) × (run ≤ longest self) }
-        ensures reads_back { OnOk result (ReadsBack (run_of self) run w.old w.new) }
+        requires { (0 < run) × (run ≤ longest (run_form self)) }
+        ensures reads_back { OnOk result (ReadsBack (run_of (run_form self)) run w.old w.new) }
+        ensures few { OnOk result (length w.new ≤ length w.old + 2 * run) }
+        ensures most { OnOk result (length w.new ≤ length w.old + 18) }
         ensures memory { OnErr result (Grows w.old w.new) }
     {
         let row = self.row_of(run);
@@ -183,7 +193,7 @@ impl RunCode {
 
     /// The longest run.
     pub(crate) fn longest(self) -> u32
-        ensures { result ≡ longest self }
+        ensures { result ≡ longest (run_form self) }
     {
         match self {
             RunCode::Long => 4_129,
@@ -193,7 +203,7 @@ impl RunCode {
 
     /// Whether the run behind a run of this length has a value of its own.
     pub(crate) fn is_renewed(self, run: u32) -> bool
-        ensures { result ≡ is_renewed self run }
+        ensures { result ≡ is_renewed (run_form self) run }
     {
         match self {
             RunCode::Long => run == 4_129,
@@ -203,9 +213,10 @@ impl RunCode {
 
     /// Reads the length of a run.
     pub(crate) fn read_run(self, r: &mut BitReader) -> Result<u32, PacketFault>
-        ensures value { Gives (λ v. v) result r.new.left (run_of self r.old.left) }
+        ensures value { Gives (λ v. v) result r.new.left (run_of (run_form self) r.old.left) }
         ensures some { IfOk result (λ v. 0 < v) }
         ensures small { IfOk result (λ v. v < 2 ^ 16) }
+        ensures end { SameEnd r.old r.new }
     {
         match self {
             RunCode::Long => long_run(r),
@@ -221,7 +232,8 @@ impl RunCode {
         run: u32,
         value: bool,
     ) -> Result<bool, PacketFault>
-        ensures { Gives (λ v. v) result r.new.left (next_value self run value r.old.left) }
+        ensures value { Gives (λ v. v) result r.new.left (next_value (run_form self) run value r.old.left) }
+        ensures end { SameEnd r.old r.new }
     {
         if self.is_renewed(run) {
             bit(r)
@@ -232,7 +244,8 @@ impl RunCode {
 
     /// The value of a string's first run.
     pub(crate) fn first_value(self, r: &mut BitReader) -> Result<bool, PacketFault>
-        ensures { Gives (λ v. v) result r.new.left (one_bit r.old.left) }
+        ensures value { Gives (λ v. v) result r.new.left (one_bit r.old.left) }
+        ensures end { SameEnd r.old r.new }
     {
         bit(r)
     }

@@ -11,7 +11,13 @@ use vid_geom::Geom;
 type Runs = (bool, &'static [usize]);
 
 /// Long strings: bytes, how many values are wanted, and the runs with the bits left.
-const LONG: [(&[u8], u32, Runs, usize); 4] = [
+const LONG: [(&[u8], u32, Runs, usize); 5] = [
+    (
+        &[0xff, 0xff, 0xff, 0xff, 0xff, 0xff, 0xff, 0x80],
+        12_387,
+        (true, &[12_387]),
+        7,
+    ),
     (&[0xff, 0xff, 0xf0], 4_130, (true, &[4_130]), 3),
     (&[0xff, 0xff, 0xf0], 4_129, (true, &[4_129]), 5),
     (&[0xd8], 5, (true, &[3, 2]), 1),
@@ -258,6 +264,23 @@ fn flags_of_twelve_shapes_are_written_and_read_and_end_where_their_bytes_are_cut
                 }
             }
         }
+    }
+    Ok(())
+}
+
+/// Frames of the most blocks, and how many flags of 65,536 differ from the one before: with none, the strings have runs of
+/// the longest kind.
+const GREATEST: [(u16, u16, u32); 2] = [(65_535, 2, 30_000), (512, 256, 0)];
+
+#[test]
+fn the_flags_of_the_greatest_frames_are_written_and_read(rt: HostRuntime) -> Result<(), Fail> {
+    for (columns, rows, changes) in GREATEST {
+        let geom = layout(&rt, rt.alloc(), columns, rows, 3);
+        let flags = drawn_flags(rt.alloc(), geom.blocks(), changes)?;
+        let mut w = BitWriter::new(rt.alloc());
+        assert_eq!(rt; write_flags(&mut w, &geom, &flags), Ok(()));
+        let back = read(&rt, rt.alloc(), &geom, &w.finish())?;
+        assert!(rt; back == Ok(flags), "{columns} by {rows}");
     }
     Ok(())
 }

@@ -1,9 +1,9 @@
 // Run strings are written (Theora I, 7.2).
-ghost use Rattle.std.specs.Prelude.{◌≡◌, ◌≤◌, ◌<◌, ◌++◌, ◌∷◌, [], Bool, List, not, false, length, IfOk, IfSome, OnErr, OnOk, Some};
-ghost use Rattle.thr_flags.specs.RunStrings.{HasRunsUpTo, is_renewed, long_string, short_string};
-ghost use Rattle.thr_flags.specs.Writing.{AddsString, Fits, Grows, Holds, IsRun, ReadsBack};
-ghost use Rattle.thr_flags.specs.declared.runs.RunCode.{RunCode};
-ghost use Rattle.thr_flags.specs.declared.runs.RunCode.TheVariants.{Short};
+ghost use Rattle.std.specs.Prelude.{◌≡◌, ◌≤◌, ◌<◌, ◌+◌, ◌++◌, ◌∷◌, [], Bool, List, not, false, length, IfOk, IfSome, OnErr, OnOk, Some};
+ghost use Rattle.thr_flags.specs.RunStrings.{HasRunsUpTo, is_renewed, long_string, short_string, RunForm, Short};
+ghost use Rattle.vid_base.specs.Writing.{AddsBit, Grows, ReadsBack};
+ghost use Rattle.thr_flags.specs.Writing.{AddsString, Fits, Holds, IsRun, most_bits};
+ghost use Rattle.thr_flags.specs.Views.{run_form};
 
 use crate::runs::RunCode;
 use vid_base::{BitWriter, NoMem};
@@ -17,7 +17,7 @@ pub(crate) struct Run {
 
 // One bit.
 fn put_bit(w: &mut BitWriter, bit: bool) -> Result<(), NoMem>
-    ensures written { OnOk result (w.new ≡ w.old ++ bit ∷ []) }
+    ensures written { OnOk result (AddsBit bit w.old w.new) }
     ensures memory { OnErr result (Grows w.old w.new) }
 {
     w.put(u32::from(bit), 1)
@@ -25,7 +25,7 @@ fn put_bit(w: &mut BitWriter, bit: bool) -> Result<(), NoMem>
 
 // The first value of a string.
 fn begin(w: &mut BitWriter, value: bool) -> Result<Run, NoMem>
-    ensures written { IfOk result (λ run. (code : RunCode) → Holds code w.old w.new (value ∷ []) (Some run)) }
+    ensures written { IfOk result (λ run. (code : RunForm) → Holds code w.old w.new (value ∷ []) (Some run)) }
     ensures length { IfOk result (λ run. run.length ≡ 1) }
     ensures memory { OnErr result (Grows w.old w.new) }
 {
@@ -35,9 +35,9 @@ fn begin(w: &mut BitWriter, value: bool) -> Result<Run, NoMem>
 
 // The run ends, and a value begins the next.
 fn turn(w: &mut BitWriter, code: RunCode, run: Run, value: bool) -> Result<Run, NoMem>
-    requires run { IsRun code run }
-    requires other { is_renewed code run.length ≡ false → value ≡ not run.value }
-    ensures written { IfOk result (λ next. (old xs : List Bool) → Holds code old w.old xs (Some run) → Holds code old w.new (xs ++ value ∷ []) (Some next)) }
+    requires run { IsRun (run_form code) run }
+    requires other { is_renewed (run_form code) run.length ≡ false → value ≡ not run.value }
+    ensures written { IfOk result (λ next. (old xs : List Bool) → Holds (run_form code) old w.old xs (Some run) → Holds (run_form code) old w.new (xs ++ value ∷ []) (Some next)) }
     ensures length { IfOk result (λ next. next.length ≡ 1) }
     ensures memory { OnErr result (Grows w.old w.new) }
 {
@@ -55,10 +55,10 @@ pub(crate) fn push(
     last: Option<Run>,
     value: bool,
 ) -> Result<Option<Run>, NoMem>
-    requires run { IfSome last (IsRun code) }
-    requires fits { IfSome last (λ run. Fits code run value) }
-    ensures written { IfOk result (λ next. (old xs : List Bool) → Holds code old w.old xs last → Holds code old w.new (xs ++ value ∷ []) next) }
-    ensures run { IfOk result (λ next. IfSome next (IsRun code)) }
+    requires run { IfSome last (IsRun (run_form code)) }
+    requires fits { IfSome last (λ run. Fits (run_form code) run value) }
+    ensures written { IfOk result (λ next. (old xs : List Bool) → Holds (run_form code) old w.old xs last → Holds (run_form code) old w.new (xs ++ value ∷ []) next) }
+    ensures run { IfOk result (λ next. IfSome next (IsRun (run_form code))) }
     ensures memory { OnErr result (Grows w.old w.new) }
 {
     match last {
@@ -78,8 +78,9 @@ pub(crate) fn push(
 
 /// The end of a string.
 pub(crate) fn close(w: &mut BitWriter, code: RunCode, last: Option<Run>) -> Result<(), NoMem>
-    requires run { IfSome last (IsRun code) }
-    ensures reads_back { OnOk result ((old xs : List Bool) → Holds code old w.old xs last → AddsString code xs old w.new) }
+    requires run { IfSome last (IsRun (run_form code)) }
+    ensures reads_back { OnOk result ((old xs : List Bool) → Holds (run_form code) old w.old xs last → AddsString (run_form code) xs old w.new) }
+    ensures few { OnOk result ((old xs : List Bool) → Holds (run_form code) old w.old xs last → length w.new ≤ length old + most_bits (length xs)) }
     ensures memory { OnErr result (Grows w.old w.new) }
 {
     match last {
@@ -90,8 +91,9 @@ pub(crate) fn close(w: &mut BitWriter, code: RunCode, last: Option<Run>) -> Resu
 
 // Writes a string of these values.
 fn write_string(w: &mut BitWriter, code: RunCode, bits: &[bool]) -> Result<(), NoMem>
-    requires { code ≡ Short → HasRunsUpTo 30 bits.now }
-    ensures reads_back { OnOk result (AddsString code bits.now w.old w.new) }
+    requires { run_form code ≡ Short → HasRunsUpTo 30 bits.now }
+    ensures reads_back { OnOk result (AddsString (run_form code) bits.now w.old w.new) }
+    ensures few { OnOk result (length w.new ≤ length w.old + most_bits (length bits.now)) }
     ensures memory { OnErr result (Grows w.old w.new) }
 {
     let mut last = None;
@@ -105,6 +107,7 @@ fn write_string(w: &mut BitWriter, code: RunCode, bits: &[bool]) -> Result<(), N
 /// others.
 pub fn write_long(w: &mut BitWriter, bits: &[bool]) -> Result<(), NoMem>
     ensures reads_back { OnOk result (ReadsBack (long_string (length bits.now)) bits.now w.old w.new) }
+    ensures few { OnOk result (length w.new ≤ length w.old + most_bits (length bits.now)) }
     ensures memory { OnErr result (Grows w.old w.new) }
 {
     write_string(w, RunCode::Long, bits)
@@ -115,6 +118,7 @@ pub fn write_long(w: &mut BitWriter, bits: &[bool]) -> Result<(), NoMem>
 pub fn write_short(w: &mut BitWriter, bits: &[bool]) -> Result<(), NoMem>
     requires { HasRunsUpTo 30 bits.now }
     ensures reads_back { OnOk result (ReadsBack (short_string (length bits.now)) bits.now w.old w.new) }
+    ensures few { OnOk result (length w.new ≤ length w.old + most_bits (length bits.now)) }
     ensures memory { OnErr result (Grows w.old w.new) }
 {
     write_string(w, RunCode::Short, bits)

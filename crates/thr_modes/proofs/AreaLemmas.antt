@@ -1,5 +1,5 @@
 -- How many blocks a macro block has, and its coded places. The placing of vectors cites these.
-use Rattle.std.proofs.Common.{◌≡◌, ◌∙◌, ℕ, ◌-◌, ◌<◌, ◌≤◌, List, ◌++◌, length, length-append, map, take, replicate, Some, slice_get, refl, ap, sym, arith}
+use Rattle.std.proofs.Common.{◌≡◌, ◌∙◌, ℕ, ◌-◌, ◌≤◌, List, ◌++◌, length, length-append, map, take, replicate, Some, slice_get, ap, sym, arith}
 use Rattle.std.specs.List.{All}
 use Rattle.std.proofs.Math.Nat.{mul_comm}
 use Rattle.std.proofs.lemmas.Bool.Decides.{nat_tests}
@@ -9,11 +9,10 @@ use Rattle.vid_base.specs.declared.shape.Shape.{Shape}
 use Rattle.vid_geom.specs.declared.block.MacroBlock.{MacroBlock}
 use Rattle.vid_geom.specs.declared.grid.Cell.{Cell}
 use Rattle.vid_geom.specs.Squares.{cells}
-use Rattle.vid_geom.specs.CodedOrder.{order_of, place_of, IsPlaceIn}
+use Rattle.vid_geom.specs.CodedOrder.{place_of}
 use Rattle.vid_geom.specs.MacroBlocks.{Area, area_at, area_blocks, columns_in, rows_in, filled, macro_blocks, macro_grid, IsMacroBlock}
 use Rattle.vid_geom.proofs.ListLemmas.{All-at}
 use Rattle.vid_geom.proofs.MacroBlockLemmas.{length-blocks_in}
-use Rattle.vid_geom.proofs.OrderLemmas.{length-order_of}
 use Rattle.thr_modes.specs.Motion.{chroma_count}
 use Rattle.thr_modes.specs.Placing.{put_at}
 use Rattle.thr_modes.proofs.PutLemmas.{put-append}
@@ -40,13 +39,6 @@ sizes s =
 pub sizes_at : (s : Shape) (m : ℕ) (area : Area) → slice_get (macro_blocks s) m ≡ Some area → HasSizes s.pf area
 sizes_at s m area h = All-at (HasSizes s.pf) (macro_blocks s) m area h (sizes s)
 
--- places of a plane are places of the frame
-pub in_frame : (s : Shape) (places : List ℕ) → All (IsPlaceIn s 1) places → All (λ place. place < length (order_of s)) places
-in_frame s places all k d h = let is = all k d h in omega (arith, length-order_of s)
-
-pub in_frame_too : (s : Shape) (places : List ℕ) → All (IsPlaceIn s 2) places → All (λ place. place < length (order_of s)) places
-in_frame_too s places all k d h = let is = all k d h in omega (arith, length-order_of s)
-
 -- the numbers of a macro block that count are the places of its blocks
 pub record ArePlaces (s : Shape) (area : Area) (numbers : MacroBlock) : Type 0 where
   pub luma : numbers.luma ≡ map (place_of s) area.luma
@@ -63,17 +55,17 @@ are_places s area numbers has is = record {
   cr = counted (map (place_of s) area.cr) numbers.cr numbers.chroma_count is.cr (length-map area.cr (place_of s) ∙ has.cr ∙ sym has.cb ∙ sym is.count);
 }
 
--- values put plane by plane
-pub put_planes : {X : Type 0} (s : Shape) (area : Area) (xs luma chroma : List X) → HasSizes s.pf area → length luma ≡ 4 → length chroma ≡ chroma_count s.pf
-    → put_at (put_at (put_at xs (map (place_of s) area.luma) luma) (map (place_of s) area.cb) chroma) (map (place_of s) area.cr) chroma ≡ put_at xs (map (place_of s) (area_blocks area)) (luma ++ chroma ++ chroma)
-put_planes s area xs luma chroma has four count =
+-- and then the places of all its blocks
+pub numbers_are : (s : Shape) (area : Area) (numbers : MacroBlock) → HasSizes s.pf area → IsMacroBlock s area numbers
+    → numbers.luma ++ take numbers.chroma_count numbers.cb ++ take numbers.chroma_count numbers.cr ≡ map (place_of s) (area_blocks area)
+numbers_are s area numbers has is =
     let place = place_of s in
-    let parts : map place (area_blocks area) ≡ map place area.luma ++ map place area.cb ++ map place area.cr = map-append place (area.luma ++ area.cb) area.cr ∙ ap (λ l. l ++ map place area.cr) (map-append place area.luma area.cb) in
-    let first : length (map place area.luma) ≡ length luma = length-map area.luma place ∙ has.luma ∙ sym four in
-    let second : length (map place area.cb) ≡ length chroma = length-map area.cb place ∙ has.cb ∙ sym count in
-    sym (ap (λ places. put_at xs places (luma ++ chroma ++ chroma)) parts
-    ∙ put-append xs (map place area.luma ++ map place area.cb) (map place area.cr) (luma ++ chroma) chroma (omega (arith, length-append (map place area.luma) (map place area.cb), length-append luma chroma))
-    ∙ ap (λ ys. put_at ys (map place area.cr) chroma) (put-append xs (map place area.luma) (map place area.cb) luma chroma first))
+    let are = are_places s area numbers has is in
+    rw (are.luma, are.cb, are.cr) (sym (map-append place (area.luma ++ area.cb) area.cr ∙ ap (λ l. l ++ map place area.cr) (map-append place area.luma area.cb)))
 
-pub put_in_turn : {X : Type 0} (xs ys zs all : List X) (luma cb cr : List ℕ) (vectors chroma : List X) → ys ≡ put_at xs luma vectors → zs ≡ put_at ys cb chroma → all ≡ put_at zs cr chroma → all ≡ put_at (put_at (put_at xs luma vectors) cb chroma) cr chroma
-put_in_turn xs ys zs all luma cb cr vectors chroma a b c = rw (c, b, a) refl
+-- values put in three parts
+pub put_three : {X : Type 0} (xs ys zs all : List X) (luma cb cr : List ℕ) (vectors chroma : List X) → length luma ≡ length vectors → length cb ≡ length chroma → ys ≡ put_at xs luma vectors → zs ≡ put_at ys cb chroma → all ≡ put_at zs cr chroma
+    → all ≡ put_at xs (luma ++ cb ++ cr) (vectors ++ chroma ++ chroma)
+put_three xs ys zs all luma cb cr vectors chroma long more a b c =
+    c ∙ ap (λ l. put_at l cr chroma) (b ∙ ap (λ l. put_at l cb chroma) a ∙ sym (put-append xs luma cb vectors chroma long))
+    ∙ sym (put-append xs (luma ++ cb) cr (vectors ++ chroma) chroma (omega (arith, length-append luma cb, length-append vectors chroma)))

@@ -9,7 +9,7 @@ use Rattle.vid_base.specs.declared.fault.PacketFault.{PacketFault}
 use Rattle.vid_base.specs.Reading.{◌>>=◌}
 use Rattle.vid_geom.specs.CodedOrder.{order_of}
 use Rattle.vid_geom.specs.MacroBlocks.{Area, macro_blocks}
-use Rattle.thr_modes.specs.declared.component.VectorCoding.{VectorCoding}
+use Rattle.thr_modes.specs.Forms.{VectorForm}
 use Rattle.thr_modes.specs.LumaFlags.{luma_flags, macro_flags}
 use Rattle.thr_modes.specs.Vectors.{Offset}
 use Rattle.thr_modes.specs.Motion.{Motion, Memory, empty, motion_in, motions, by_block, coded_vectors}
@@ -31,7 +31,7 @@ regroup s vectors area areas motion (Ok y) = refl
 regroup s vectors area areas motion (Err fault) = refl
 
 -- one macro block more
-pub motions_more : (coding : VectorCoding) (s : Shape) (modes : List ℕ) (lumas : List (List Bool)) (areas : List Area) (vectors : List Offset) (m mode : ℕ) (luma : List Bool) (area : Area) (memory next : Memory) (motion : Motion) (left rest : List Bool)
+pub motions_more : (coding : VectorForm) (s : Shape) (modes : List ℕ) (lumas : List (List Bool)) (areas : List Area) (vectors : List Offset) (m mode : ℕ) (luma : List Bool) (area : Area) (memory next : Memory) (motion : Motion) (left rest : List Bool)
     → slice_get modes m ≡ Some mode → slice_get lumas m ≡ Some luma → slice_get areas m ≡ Some area → motion_in coding s.pf mode luma memory left ≡ Ok ((motion, next), rest)
     → put_read s (put_motion s vectors area motion) (drop (m + 1) areas) (motions coding s.pf (drop (m + 1) modes) (drop (m + 1) lumas) next rest)
     ≡ put_read s vectors (drop m areas) (motions coding s.pf (drop m modes) (drop m lumas) memory left)
@@ -40,14 +40,14 @@ motions_more coding s modes lumas areas vectors m mode luma area memory next mot
     rw (drop_at modes m mode a, drop_at lumas m luma b, drop_at areas m area c, e) (regroup s vectors area (drop (m + 1) areas) motion (motions coding s.pf (drop (m + 1) modes) (drop (m + 1) lumas) next rest))
 
 -- a fault in place of a motion
-pub motions_fault : (coding : VectorCoding) (s : Shape) (modes : List ℕ) (lumas : List (List Bool)) (areas : List Area) (vectors : List Offset) (m mode : ℕ) (luma : List Bool) (memory : Memory) (left : List Bool) (fault : PacketFault)
+pub motions_fault : (coding : VectorForm) (s : Shape) (modes : List ℕ) (lumas : List (List Bool)) (areas : List Area) (vectors : List Offset) (m mode : ℕ) (luma : List Bool) (memory : Memory) (left : List Bool) (fault : PacketFault)
     → slice_get modes m ≡ Some mode → slice_get lumas m ≡ Some luma → motion_in coding s.pf mode luma memory left ≡ Err fault
     → put_read s vectors (drop m areas) (motions coding s.pf (drop m modes) (drop m lumas) memory left) ≡ Err fault
 unfolding motions
 motions_fault coding s modes lumas areas vectors m mode luma memory left fault a b e = rw (drop_at modes m mode a, drop_at lumas m luma b, e) refl
 
 -- no macro block more
-pub motions_done : (coding : VectorCoding) (s : Shape) (modes : List ℕ) (lumas : List (List Bool)) (areas : List Area) (vectors : List Offset) (m : ℕ) (memory : Memory) (left : List Bool) → length modes ≤ m → length areas ≤ m
+pub motions_done : (coding : VectorForm) (s : Shape) (modes : List ℕ) (lumas : List (List Bool)) (areas : List Area) (vectors : List Offset) (m : ℕ) (memory : Memory) (left : List Bool) → length modes ≤ m → length areas ≤ m
     → put_read s vectors (drop m areas) (motions coding s.pf (drop m modes) (drop m lumas) memory left) ≡ Ok (vectors, left)
 unfolding motions put_all
 motions_done coding s modes lumas areas vectors m memory left a b = rw (drop_all m modes a, drop_all m areas b) refl
@@ -60,7 +60,7 @@ four_flags s flags =
     (All-weaker (HasSizes s.pf) (λ area. length (luma_flags s flags area) ≡ 4) (λ area has. length-map area.luma _ ∙ has.luma) (macro_blocks s) (sizes s))
 
 -- all that is to be read and put, by block
-pub motions_first : (coding : VectorCoding) (s : Shape) (flags : List Bool) (modes : List ℕ) (vectors : List Offset) (bits : List Bool) → length vectors ≡ length (order_of s) → length modes ≡ length (macro_blocks s)
+pub motions_first : (coding : VectorForm) (s : Shape) (flags : List Bool) (modes : List ℕ) (vectors : List Offset) (bits : List Bool) → length vectors ≡ length (order_of s) → length modes ≡ length (macro_blocks s)
     → put_read s vectors (macro_blocks s) (motions coding s.pf modes (macro_flags s flags) empty bits) ≡ coded_vectors coding s flags modes bits
 unfolding coded_vectors
 motions_first coding s flags modes vectors bits long count =

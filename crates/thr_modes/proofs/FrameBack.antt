@@ -10,18 +10,18 @@ use Rattle.std.proofs.Math.Seq.{drop-append_seam}
 use Rattle.vid_base.specs.declared.shape.Shape.{Shape}
 use Rattle.vid_base.specs.declared.shape.Vector.{Vector}
 use Rattle.vid_base.specs.declared.fault.PacketFault.{PacketFault}
-use Rattle.vid_base.specs.Reading.{◌>>=◌}
+use Rattle.vid_base.specs.Reading.{one_bit, ◌>>=◌}
+use Rattle.vid_base.specs.Writing.{ReadsBack}
 use Rattle.vid_geom.specs.declared.block.Block.{Block}
 use Rattle.vid_geom.specs.CodedOrder.{IsBlock, order_of, place_of, same_block}
 use Rattle.vid_geom.specs.MacroBlocks.{Area, area_blocks, macro_blocks, macro_order}
 use Rattle.vid_geom.proofs.ListLemmas.{All-at}
 use Rattle.vid_geom.proofs.MacroBlockLemmas.{macro_order_names_each_once}
 use Rattle.vid_geom.proofs.OrderLemmas.{at_place}
-use Rattle.thr_modes.specs.declared.component.VectorCoding.{VectorCoding}
-use Rattle.thr_modes.specs.declared.component.VectorCoding.TheVariants.{Fixed}
-use Rattle.thr_modes.specs.InOrder.{Adds}
+use Rattle.thr_modes.specs.Forms.{VectorForm, Fixed}
+use Rattle.thr_modes.specs.Chosen.{IsVector}
 use Rattle.thr_modes.specs.LumaFlags.{macro_flags}
-use Rattle.thr_modes.specs.Vectors.{Offset, offset_of, still, one_bit}
+use Rattle.thr_modes.specs.Vectors.{Offset, offset_of, still}
 use Rattle.thr_modes.specs.Motion.{Motion, block_vectors, empty, motions, by_block, coded_vectors, vector_coding, vectors_of}
 use Rattle.thr_modes.specs.WrittenVectors.{motions_code, luma_vectors, macro_vectors}
 use Rattle.thr_modes.proofs.AreaLemmas.{HasSizes, sizes}
@@ -29,7 +29,7 @@ use Rattle.thr_modes.proofs.BlockLemmas.{position_is, same_long, both_long}
 use Rattle.thr_modes.proofs.FoldLemmas.{four_flags}
 use Rattle.thr_modes.proofs.LumaLemmas.{flags_long}
 use Rattle.thr_modes.proofs.MotionSizes.{HasVectors, AreMotions, HaveMotions, motions_have}
-use Rattle.thr_modes.proofs.VectorsBack.{IsVector, luma_of, MotionsBack, motions_back}
+use Rattle.thr_modes.proofs.VectorsBack.{luma_of, MotionsBack, motions_back}
 
 -- lists of two parts that are equal have equal parts
 split_same : {X : Type 0} (a b c d : List X) → length a ≡ length b → a ++ c ≡ b ++ d → (a ≡ b) × (c ≡ d)
@@ -102,7 +102,7 @@ abbrev CodedBack : Shape → List Bool → List ℕ → List Offset × List Bool
 CodedBack s flags modes read =
     All IsVector read.0 → (more : List Bool) → coded_vectors Fixed s flags modes (motions_code modes (macro_flags s flags) (macro_vectors s read.0) ++ more) ≡ Ok (read.0, more)
 
-coded_back : (coding : VectorCoding) (s : Shape) (flags : List Bool) (modes : List ℕ) (bits : List Bool) → length modes ≡ length (macro_blocks s) → IfOk (coded_vectors coding s flags modes bits) (CodedBack s flags modes)
+coded_back : (coding : VectorForm) (s : Shape) (flags : List Bool) (modes : List ℕ) (bits : List Bool) → length modes ≡ length (macro_blocks s) → IfOk (coded_vectors coding s flags modes bits) (CodedBack s flags modes)
 unfolding coded_vectors
 coded_back coding s flags modes bits count =
     go (motions coding s.pf modes (macro_flags s flags) empty bits) (motions_have coding s.pf modes (macro_flags s flags) empty bits (flags_long s flags ∙ sym count) (four_flags s flags)) (motions_back coding s.pf modes (macro_flags s flags) empty bits)
@@ -122,10 +122,10 @@ are_vectors vectors = All-map IsVector offset_of vectors (λ k d h. ((get_or vec
 
 -- from MVMODE on
 pub vectors_read_back : (s : Shape) (flags : List Bool) (modes : List ℕ) (vectors : List Offset) (bits rest old now new : List Bool) → length modes ≡ length (macro_blocks s) → All IsVector vectors → vectors_of s flags modes bits ≡ Ok (vectors, rest)
-    → now ≡ old ++ true ∷ [] → new ≡ now ++ motions_code modes (macro_flags s flags) (macro_vectors s vectors) → Adds (vectors_of s flags modes) vectors old new
+    → now ≡ old ++ true ∷ [] → new ≡ now ++ motions_code modes (macro_flags s flags) (macro_vectors s vectors) → ReadsBack (vectors_of s flags modes) vectors old new
 unfolding vectors_of vector_coding one_bit
 vectors_read_back s flags modes vectors [] rest old now new count all e a b = cc
 vectors_read_back s flags modes vectors (mvmode ∷ bits) rest old now new count all e a b =
     let code : List Bool = motions_code modes (macro_flags s flags) (macro_vectors s vectors) in
     let back = rw e at (coded_back (vector_coding mvmode) s flags modes bits count) in
-    (true ∷ code, b ∙ ap (λ k. k ++ code) a ∙ append_assoc old (true ∷ []) code, λ more. back all more)
+    record { more = true ∷ code; added = b ∙ ap (λ k. k ++ code) a ∙ append_assoc old (true ∷ []) code; reads = λ more. back all more }

@@ -14,3 +14,5 @@ pub mod VectorCodes
 pub mod VectorsBack
 pub mod FrameBack
 pub mod SmallModes
+pub mod ChosenLemmas
+pub mod FewBits

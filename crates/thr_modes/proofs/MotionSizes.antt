@@ -5,7 +5,7 @@ use Rattle.std.proofs.lemmas.Bool.Decides.{nat_tests}
 use Rattle.std.proofs.lemmas.List.Elements.{All-nil, All-head, All-tail}
 use Rattle.vid_base.specs.declared.fault.PacketFault.{PacketFault}
 use Rattle.vid_base.specs.Reading.{◌>>=◌}
-use Rattle.thr_modes.specs.declared.component.VectorCoding.{VectorCoding}
+use Rattle.thr_modes.specs.Forms.{VectorForm}
 use Rattle.thr_modes.specs.InOrder.{each}
 use Rattle.thr_modes.specs.Vectors.{Offset, still, vector_in}
 use Rattle.thr_modes.specs.Motion.{Motion, Memory, chroma_count, same_motion, own_motion, chroma_of, after, exchanged, own_vector, last_coded, motion_in, motions}
@@ -44,7 +44,7 @@ own_read_has : (pf : ℕ) (luma : List Bool) (memory : Memory) (read : Result (L
 own_read_has pf luma memory (Ok vs) four h = own_has pf vs.0 (h ∙ four)
 own_read_has pf luma memory (Err fault) four h = tt
 
-pub motion_has : (coding : VectorCoding) (pf mode : ℕ) (luma : List Bool) (memory : Memory) (bits : List Bool) → length luma ≡ 4 → IfOk (motion_in coding pf mode luma memory bits) (Has pf)
+pub motion_has : (coding : VectorForm) (pf mode : ℕ) (luma : List Bool) (memory : Memory) (bits : List Bool) → length luma ≡ 4 → IfOk (motion_in coding pf mode luma memory bits) (Has pf)
 unfolding motion_in
 motion_has coding pf mode luma memory bits four = go (mode == 2) (mode == 3) (mode == 4) (mode == 6) (mode == 7)
   where
@@ -79,7 +79,7 @@ more_have : (pf n : ℕ) (first : Motion) (read : Result (List Motion × List Bo
 more_have pf n first (Ok y) has h = record { long = (let l = h.long in omega arith); each = All-cons (HasVectors pf) first y.0 has h.each }
 more_have pf n first (Err fault) has h = tt
 
-pub motions_have : (coding : VectorCoding) (pf : ℕ) (modes : List ℕ) (lumas : List (List Bool)) (memory : Memory) (bits : List Bool) → length lumas ≡ length modes → All (λ luma. length luma ≡ 4) lumas
+pub motions_have : (coding : VectorForm) (pf : ℕ) (modes : List ℕ) (lumas : List (List Bool)) (memory : Memory) (bits : List Bool) → length lumas ≡ length modes → All (λ luma. length luma ≡ 4) lumas
     → IfOk (motions coding pf modes lumas memory bits) (HaveMotions pf (length modes))
 unfolding motions
 motions_have coding pf [] lumas memory bits e four = record { long = refl; each = All-nil (HasVectors pf) }

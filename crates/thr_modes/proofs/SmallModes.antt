@@ -11,8 +11,7 @@ use Rattle.vid_base.specs.Bits.{take_bits, number}
 use Rattle.vid_base.specs.Items.{items}
 use Rattle.vid_base.specs.Reading.{field, or_ended, ◌>>=◌}
 use Rattle.vid_base.proofs.NumberLemmas.{number-lt}
-use Rattle.thr_modes.specs.declared.alphabet.ModeCoding.{ModeCoding}
-use Rattle.thr_modes.specs.declared.alphabet.ModeCoding.TheVariants.{Ranked, Plain}
+use Rattle.thr_modes.specs.Forms.{ModeForm, Ranked, Plain}
 use Rattle.thr_modes.specs.InOrder.{each}
 use Rattle.thr_modes.specs.LumaFlags.{some_coded}
 use Rattle.thr_modes.specs.Modes.{alphabets, mode_with, by_rank, own_alphabet, coding_of, rank_in, mode_in, macro_mode, ZeroWhereUncoded}
@@ -88,11 +87,11 @@ own_small bits =
     go ranks false long e = no_gap (by_rank ranks.0) (λ k. found_all ranks.0 (0 ∷ 1 ∷ 2 ∷ 3 ∷ 4 ∷ 5 ∷ 6 ∷ 7 ∷ []) k long) e
 
 -- a coding that gives modes below 8
-abbrev pub IsSmallCoding : ModeCoding → Type 0
+abbrev pub IsSmallCoding : ModeForm → Type 0
 IsSmallCoding (Ranked alphabet) = AreSmall alphabet
 IsSmallCoding Plain = Unit {0}
 
-abbrev pub ReadsCoding : ModeCoding × List Bool → Type 0
+abbrev pub ReadsCoding : ModeForm × List Bool → Type 0
 ReadsCoding read = IsSmallCoding read.0
 
 pub coding_small : (scheme : ℕ) (bits : List Bool) → IfOk (coding_of scheme bits) ReadsCoding
@@ -104,7 +103,7 @@ coding_small scheme bits = go (scheme == 0) (scheme == 7)
     go false true = tt
     go false false = fixed_small (scheme - 1)
 
-mode_small : (coding : ModeCoding) (bits : List Bool) → IsSmallCoding coding → IfOk (mode_in coding bits) (Below 8)
+mode_small : (coding : ModeForm) (bits : List Bool) → IsSmallCoding coding → IfOk (mode_in coding bits) (Below 8)
 unfolding mode_in
 mode_small (Ranked alphabet) bits small = after_any (Below 8) (rank_in 7 bits) (λ rank. Ok (get_or alphabet rank.0 0, rank.1)) (λ rank. small rank.0)
 mode_small Plain bits small = field_small 3 bits
@@ -113,7 +112,7 @@ mode_small Plain bits small = field_small 3 bits
 abbrev IsMode : List Bool → ℕ × List Bool → Type 0
 IsMode luma read = (read.0 < 8) × (some_coded luma ≡ false → read.0 ≡ 0)
 
-macro_small : (coding : ModeCoding) (luma : List Bool) (bits : List Bool) → IsSmallCoding coding → IfOk (macro_mode coding luma bits) (IsMode luma)
+macro_small : (coding : ModeForm) (luma : List Bool) (bits : List Bool) → IsSmallCoding coding → IfOk (macro_mode coding luma bits) (IsMode luma)
 unfolding macro_mode
 macro_small coding luma bits small = go (some_coded luma) refl
   where
@@ -146,7 +145,7 @@ more_modes luma lumas first (Ok others) is are = record { small = all; zero_wher
     none zero other e uncoded = ap Some (is.1 (ap some_coded (sym (let same : other ≡ luma = cc in same)) ∙ uncoded))
     none (suc m) other e uncoded = are.zero_where_uncoded m other e uncoded
 
-pub modes_small : (coding : ModeCoding) (lumas : List (List Bool)) (bits : List Bool) → IsSmallCoding coding → IfOk (each (macro_mode coding) lumas bits) (ReadsModes lumas)
+pub modes_small : (coding : ModeForm) (lumas : List (List Bool)) (bits : List Bool) → IsSmallCoding coding → IfOk (each (macro_mode coding) lumas bits) (ReadsModes lumas)
 unfolding each
 modes_small coding [] bits small = record { small = λ k d h. absurd (omega arith); zero_where_uncoded = λ m luma e uncoded. cc }
 modes_small coding (luma ∷ lumas) bits small =
@@ -154,7 +153,7 @@ modes_small coding (luma ∷ lumas) bits small =
     (λ first is. more_modes luma lumas first (each (macro_mode coding) lumas first.1) is (modes_small coding lumas first.1 small))
 
 -- from the scheme on
-pub read_are : (scheme : ℕ) (coding : ModeCoding) (lumas : List (List Bool)) (modes : List ℕ) (bits left rest : List Bool) → coding_of scheme bits ≡ Ok (coding, left) → each (macro_mode coding) lumas left ≡ Ok (modes, rest) → AreModes lumas modes
+pub read_are : (scheme : ℕ) (coding : ModeForm) (lumas : List (List Bool)) (modes : List ℕ) (bits left rest : List Bool) → coding_of scheme bits ≡ Ok (coding, left) → each (macro_mode coding) lumas left ≡ Ok (modes, rest) → AreModes lumas modes
 read_are scheme coding lumas modes bits left rest e f =
     let small = rw e at (coding_small scheme bits) in
     rw f at (modes_small coding lumas left small)

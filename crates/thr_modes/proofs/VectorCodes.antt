@@ -1,17 +1,12 @@
 -- The bits that vectors are written as, one block or macro block behind the other. The writer of vectors cites these.
-use Rattle.std.proofs.Common.{◌≡◌, ◌∙◌, ℕ, suc, ◌+◌, ◌<◌, ◌≤◌, Bool, false, cond, List, [], ◌∷◌, ◌++◌, length, map, drop, get_or, Some, slice_get, IsSomeAnd, ap, sym, arith, append_assoc}
+use Rattle.std.proofs.Common.{◌≡◌, ◌∙◌, ℕ, suc, ◌+◌, ◌<◌, ◌≤◌, Bool, false, cond, List, [], ◌∷◌, ◌++◌, length, map, drop, get_or, Some, slice_get, ap, sym, arith, append_assoc}
 use Rattle.std.proofs.lemmas.List.{append-nil, drop_all}
-use Rattle.std.proofs.lemmas.Option.{slice_get-map}
-use Rattle.std.proofs.lemmas.Simd.{map-map}
 use Rattle.std.proofs.Math.Seq.{drop-cons}
 use Rattle.vid_base.specs.declared.shape.Shape.{Shape}
-use Rattle.vid_geom.specs.declared.block.MacroBlock.{MacroBlock}
-use Rattle.vid_geom.specs.CodedOrder.{place_of}
-use Rattle.vid_geom.specs.MacroBlocks.{macro_blocks, IsMacroBlock}
 use Rattle.thr_modes.specs.Vectors.{Offset, still}
 use Rattle.thr_modes.specs.WrittenVectors.{vector_code, own_codes, motion_code, motions_code, luma_vectors, macro_vectors}
 use Rattle.thr_modes.proofs.EachLemmas.{drop_at}
-use Rattle.thr_modes.proofs.LumaLemmas.{area_of}
+use Rattle.thr_modes.proofs.LumaLemmas.{AreLuma, luma_at}
 
 -- one block more
 pub own_more : (luma : List Bool) (vectors : List Offset) (b : ℕ) (v : Offset) (old now new all : List Bool) → b < length luma → b < length vectors → get_or vectors b v ≡ v → new ≡ now ++ cond (get_or luma b false) (vector_code v) []
@@ -47,11 +42,6 @@ motions_code_all modes lumas motions m old now all h inv =
     let whole = rw (drop_all m modes h) at inv in sym (append-nil now) ∙ whole
 
 -- the vectors at the places of the luma blocks
-pub luma_vectors_at : (s : Shape) (vectors : List Offset) (m : ℕ) (numbers : MacroBlock) → IsSomeAnd (slice_get (macro_blocks s) m) (λ area. IsMacroBlock s area numbers)
-    → slice_get (macro_vectors s vectors) m ≡ Some (map (λ place. get_or vectors place still) numbers.luma)
+pub luma_vectors_at : (s : Shape) (vectors : List Offset) (m : ℕ) (places : List ℕ) → AreLuma s m places → slice_get (macro_vectors s vectors) m ≡ Some (map (λ place. get_or vectors place still) places)
 unfolding macro_vectors luma_vectors
-luma_vectors_at s vectors m numbers h =
-    let of = area_of s m numbers h in
-    let vector : ℕ → Offset = λ place. get_or vectors place still in
-    let there : map (λ b. get_or vectors (place_of s b) still) of.area.luma ≡ map vector numbers.luma = sym (map-map vector (place_of s) of.area.luma) ∙ ap (map vector) (sym of.is.luma) in
-    slice_get-map (luma_vectors s vectors) (macro_blocks s) m ∙ rw of.at (ap Some there)
+luma_vectors_at s vectors m places h = luma_at s m places (λ place. get_or vectors place still) h

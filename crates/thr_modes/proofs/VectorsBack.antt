@@ -8,19 +8,15 @@ use Rattle.std.proofs.lemmas.Int.{ints}
 use Rattle.std.proofs.lemmas.List.Elements.{All-head, All-tail}
 use Rattle.vid_base.specs.declared.fault.PacketFault.{PacketFault}
 use Rattle.vid_base.specs.Bits.{digits}
-use Rattle.vid_base.specs.Reading.{◌>>=◌}
+use Rattle.vid_base.specs.Reading.{one_bit, ◌>>=◌}
 use Rattle.vid_base.proofs.NumberLemmas.{take-digits}
-use Rattle.thr_modes.specs.declared.component.VectorCoding.{VectorCoding}
-use Rattle.thr_modes.specs.declared.component.VectorCoding.TheVariants.{Fixed}
+use Rattle.thr_modes.specs.Forms.{VectorForm, Fixed}
+use Rattle.thr_modes.specs.Chosen.{IsVector}
 use Rattle.thr_modes.specs.InOrder.{each}
-use Rattle.thr_modes.specs.Vectors.{Offset, IsComponent, still, one_bit, signed, sized, component, vector_in}
+use Rattle.thr_modes.specs.Vectors.{Offset, IsComponent, still, signed, sized, component, vector_in}
 use Rattle.thr_modes.specs.Motion.{Motion, Memory, same_motion, own_motion, after, exchanged, own_vector, last_coded, motion_in, motions}
 use Rattle.thr_modes.specs.WrittenVectors.{component_code, vector_code, own_codes, motion_code, motions_code}
 use Rattle.thr_modes.proofs.OkLemmas.{any_ok}
-
--- its components are no larger than 31
-abbrev pub IsVector : Offset → Type 0
-IsVector v = IsComponent v.x × IsComponent v.y
 
 size_small : (c : ℤ) → IsComponent c → unsigned_abs c < 32
 size_small (pos k) h = omega (arith, ints)
@@ -38,7 +34,7 @@ component_back c more h =
     rw (append_assoc (digits 5 (unsigned_abs c)) (is_negative c ∷ []) more, take-digits 5 (unsigned_abs c) (is_negative c ∷ more) (size_small c h)) (ap (λ k. Ok (k, more)) (sign_back c))
 
 -- a vector is read back
-vector_back : (v : Offset) (more : List Bool) → IsVector v → vector_in Fixed (vector_code v ++ more) ≡ Ok (v, more)
+pub vector_back : (v : Offset) (more : List Bool) → IsVector v → vector_in Fixed (vector_code v ++ more) ≡ Ok (v, more)
 unfolding vector_in vector_code
 vector_back v more h = rw (append_assoc (component_code v.x) (component_code v.y) more, component_back v.x (component_code v.y ++ more) h.0, component_back v.y more h.1) refl
 
@@ -46,7 +42,7 @@ vector_back v more h = rw (append_assoc (component_code v.x) (component_code v.y
 abbrev OwnBack : Bool → Offset × List Bool → Type 0
 OwnBack coded read = IsVector read.0 → (more : List Bool) → own_vector Fixed coded (cond coded (vector_code read.0) [] ++ more) ≡ Ok (read.0, more)
 
-own_back : (coding : VectorCoding) (coded : Bool) (bits : List Bool) → IfOk (own_vector coding coded bits) (OwnBack coded)
+own_back : (coding : VectorForm) (coded : Bool) (bits : List Bool) → IfOk (own_vector coding coded bits) (OwnBack coded)
 unfolding own_vector
 own_back coding true bits = any_ok (OwnBack true) (vector_in coding bits) (λ read h more. vector_back read.0 more h)
 own_back coding false bits = λ h more. refl
@@ -64,7 +60,7 @@ more_owns coded luma first (Ok others) own owns = λ all more.
     rw (append_assoc (cond coded (vector_code first.0) []) (own_codes luma others.0) more, a, b) refl
 more_owns coded luma first (Err fault) own owns = tt
 
-owns_back : (coding : VectorCoding) (luma : List Bool) (bits : List Bool) → IfOk (each (own_vector coding) luma bits) (OwnsBack luma)
+owns_back : (coding : VectorForm) (luma : List Bool) (bits : List Bool) → IfOk (each (own_vector coding) luma bits) (OwnsBack luma)
 unfolding each own_codes
 owns_back coding [] bits = λ all more. refl
 owns_back coding (coded ∷ luma) bits = go (own_vector coding coded bits) (own_back coding coded bits) (owns_back coding luma)
@@ -75,7 +71,7 @@ owns_back coding (coded ∷ luma) bits = go (own_vector coding coded bits) (own_
     go (Err fault) own owns = tt
 
 -- a macro block by the tests of its mode
-abbrev motion_by : Bool → Bool → Bool → Bool → Bool → VectorCoding → ℕ → List Bool → Memory → List Bool → Result ((Motion × Memory) × List Bool) PacketFault
+abbrev pub motion_by : Bool → Bool → Bool → Bool → Bool → VectorForm → ℕ → List Bool → Memory → List Bool → Result ((Motion × Memory) × List Bool) PacketFault
 motion_by new last last2 golden own coding pf luma memory bits =
     cond new (vector_in coding bits >>= (λ v. Ok ((same_motion pf v.0, after v.0 memory), v.1)))
     (cond last (Ok ((same_motion pf memory.last1, memory), bits))
@@ -84,14 +80,14 @@ motion_by new last last2 golden own coding pf luma memory bits =
     (cond own (each (own_vector coding) luma bits >>= (λ vs. Ok ((own_motion pf vs.0, after (last_coded luma vs.0 memory.last1) memory), vs.1)))
     (Ok ((same_motion pf still, memory), bits))))))
 
-abbrev code_by : Bool → Bool → Bool → List Bool → List Offset → List Bool
+abbrev pub code_by : Bool → Bool → Bool → List Bool → List Offset → List Bool
 code_by new golden own luma vectors = cond (new || golden) (vector_code (get_or vectors 0 still)) (cond own (own_codes luma vectors) [])
 
 abbrev ByBack : Bool → Bool → Bool → Bool → Bool → ℕ → List Bool → Memory → (Motion × Memory) × List Bool → Type 0
 ByBack new last last2 golden own pf luma memory read =
     All IsVector read.0.0.luma → (more : List Bool) → motion_by new last last2 golden own Fixed pf luma memory (code_by new golden own luma read.0.0.luma ++ more) ≡ Ok (read.0, more)
 
-by_back : (new last last2 golden own : Bool) → (last ≡ true → (golden ≡ false) × (own ≡ false)) → (last2 ≡ true → (golden ≡ false) × (own ≡ false)) → (coding : VectorCoding) (pf : ℕ) (luma : List Bool) (memory : Memory) (bits : List Bool)
+by_back : (new last last2 golden own : Bool) → (last ≡ true → (golden ≡ false) × (own ≡ false)) → (last2 ≡ true → (golden ≡ false) × (own ≡ false)) → (coding : VectorForm) (pf : ℕ) (luma : List Bool) (memory : Memory) (bits : List Bool)
     → IfOk (motion_by new last last2 golden own coding pf luma memory bits) (ByBack new last last2 golden own pf luma memory)
 unfolding same_motion own_motion
 by_back true last last2 golden own d e coding pf luma memory bits = go (vector_in coding bits)
@@ -119,7 +115,7 @@ abbrev MotionBack : ℕ → ℕ → List Bool → Memory → (Motion × Memory) 
 MotionBack pf mode luma memory read =
     All IsVector read.0.0.luma → (more : List Bool) → motion_in Fixed pf mode luma memory (motion_code mode luma read.0.0.luma ++ more) ≡ Ok (read.0, more)
 
-motion_back : (coding : VectorCoding) (pf mode : ℕ) (luma : List Bool) (memory : Memory) (bits : List Bool) → IfOk (motion_in coding pf mode luma memory bits) (MotionBack pf mode luma memory)
+motion_back : (coding : VectorForm) (pf mode : ℕ) (luma : List Bool) (memory : Memory) (bits : List Bool) → IfOk (motion_in coding pf mode luma memory bits) (MotionBack pf mode luma memory)
 unfolding motion_in motion_code
 motion_back coding pf mode luma memory bits =
     by_back (mode == 2) (mode == 3) (mode == 4) (mode == 6) (mode == 7) (λ e. (grind (arith, nat_tests), grind (arith, nat_tests))) (λ e. (grind (arith, nat_tests), grind (arith, nat_tests))) coding pf luma memory bits
@@ -141,7 +137,7 @@ more_motions pf mode modes luma lumas memory first (Ok others) one rest = λ all
     rw (append_assoc (motion_code mode luma first.0.0.luma) (motions_code modes lumas (luma_of others.0)) more, a, b) refl
 more_motions pf mode modes luma lumas memory first (Err fault) one rest = tt
 
-pub motions_back : (coding : VectorCoding) (pf : ℕ) (modes : List ℕ) (lumas : List (List Bool)) (memory : Memory) (bits : List Bool) → IfOk (motions coding pf modes lumas memory bits) (MotionsBack pf modes lumas memory)
+pub motions_back : (coding : VectorForm) (pf : ℕ) (modes : List ℕ) (lumas : List (List Bool)) (memory : Memory) (bits : List Bool) → IfOk (motions coding pf modes lumas memory bits) (MotionsBack pf modes lumas memory)
 unfolding motions motions_code
 motions_back coding pf [] lumas memory bits = λ all more. refl
 motions_back coding pf (mode ∷ modes) [] memory bits = λ all more. refl

@@ -5,10 +5,11 @@ use Rattle.std.proofs.lemmas.Option.{same_Some}
 use Rattle.std.proofs.Math.Seq.{drop-cons}
 use Rattle.vid_base.specs.Bits.{digits}
 use Rattle.vid_base.specs.Reading.{field}
+use Rattle.vid_base.specs.Writing.{ReadsBack}
 use Rattle.vid_base.specs.declared.shape.Shape.{Shape}
 use Rattle.vid_base.proofs.NumberLemmas.{take-digits}
-use Rattle.thr_modes.specs.declared.alphabet.ModeCoding.TheVariants.{Plain}
-use Rattle.thr_modes.specs.InOrder.{each, Adds}
+use Rattle.thr_modes.specs.Forms.{Plain}
+use Rattle.thr_modes.specs.InOrder.{each}
 use Rattle.thr_modes.specs.LumaFlags.{macro_flags, some_coded}
 use Rattle.thr_modes.specs.Modes.{coding_of, mode_in, macro_mode, modes_of, ZeroWhereUncoded}
 use Rattle.thr_modes.specs.Written.{mode_code, modes_code}
@@ -57,11 +58,11 @@ modes_back (luma ∷ lumas) (mode ∷ modes) rest long small none =
 
 -- from the scheme on
 pub modes_read_back : (s : Shape) (flags : List Bool) (modes : List ℕ) (old now new : List Bool) → length modes ≡ length (macro_flags s flags) → All (λ mode. mode < 8) modes → ZeroWhereUncoded (macro_flags s flags) modes
-    → now ≡ old ++ digits 3 7 → new ≡ now ++ modes_code (macro_flags s flags) modes → Adds (modes_of s flags) modes old new
+    → now ≡ old ++ digits 3 7 → new ≡ now ++ modes_code (macro_flags s flags) modes → ReadsBack (modes_of s flags) modes old new
 unfolding modes_of coding_of
 modes_read_back s flags modes old now new long small none a b =
-    let code : List Bool = modes_code (macro_flags s flags) modes in (
-      digits 3 7 ++ code,
-      b ∙ ap (λ bits. bits ++ code) a ∙ append_assoc old (digits 3 7) code,
-      λ rest. rw (append_assoc (digits 3 7) code rest, take-digits 3 7 (code ++ rest) (omega arith)) (modes_back (macro_flags s flags) modes rest long small none),
-    )
+    let code : List Bool = modes_code (macro_flags s flags) modes in record {
+      more = digits 3 7 ++ code;
+      added = b ∙ ap (λ bits. bits ++ code) a ∙ append_assoc old (digits 3 7) code;
+      reads = λ rest. rw (append_assoc (digits 3 7) code rest, take-digits 3 7 (code ++ rest) (omega arith)) (modes_back (macro_flags s flags) modes rest long small none);
+    }

@@ -1,7 +1,9 @@
 pub mod InOrder
+pub mod Forms
 pub mod LumaFlags
 pub mod Modes
 pub mod Motion
+pub mod Chosen
 pub mod Placing
 pub mod Vectors
 pub mod Views

@@ -6,8 +6,7 @@ use Rattle.vid_base.specs.declared.fault.PacketFault.{PacketFault}
 use Rattle.vid_base.specs.declared.fault.PacketFault.TheVariants.{Ended, BadAlphabet}
 use Rattle.vid_base.specs.Reading.{field, ◌>>=◌}
 use Rattle.vid_base.specs.Items.{items}
-use Rattle.thr_modes.specs.declared.alphabet.ModeCoding.{ModeCoding}
-use Rattle.thr_modes.specs.declared.alphabet.ModeCoding.TheVariants.{Ranked, Plain}
+use Rattle.thr_modes.specs.Forms.{ModeForm, Ranked, Plain}
 use Rattle.thr_modes.specs.InOrder.{each}
 use Rattle.thr_modes.specs.LumaFlags.{macro_flags, some_coded}
 
@@ -36,7 +35,7 @@ own_alphabet bits = items (field 3) 8 bits >>= (λ ranks.
     if list_any (λ mode. mode == 8) (by_rank ranks.0) then Err BadAlphabet else Ok (by_rank ranks.0, ranks.1))
 
 -- how modes are coded under a scheme
-unfoldable pub coding_of : ℕ → List Bool → Result (ModeCoding × List Bool) PacketFault
+unfoldable pub coding_of : ℕ → List Bool → Result (ModeForm × List Bool) PacketFault
 coding_of scheme bits =
     if scheme == 0 then own_alphabet bits >>= (λ alphabet. Ok (Ranked alphabet.0, alphabet.1))
     else if scheme == 7 then Ok (Plain, bits)
@@ -50,12 +49,12 @@ rank_in (suc most) (false ∷ bits) = Ok (0, bits)
 rank_in (suc most) (true ∷ bits) = rank_in most bits >>= (λ further. Ok (suc further.0, further.1))
 
 -- a mode: by its rank, or as 3 bits
-unfoldable pub mode_in : ModeCoding → List Bool → Result (ℕ × List Bool) PacketFault
+unfoldable pub mode_in : ModeForm → List Bool → Result (ℕ × List Bool) PacketFault
 mode_in (Ranked alphabet) bits = rank_in 7 bits >>= (λ rank. Ok (get_or alphabet rank.0 0, rank.1))
 mode_in Plain bits = field 3 bits
 
 -- the mode of a macro block, from the flags of its luma blocks: 0 where none is coded, and nothing is read
-unfoldable pub macro_mode : ModeCoding → List Bool → List Bool → Result (ℕ × List Bool) PacketFault
+unfoldable pub macro_mode : ModeForm → List Bool → List Bool → Result (ℕ × List Bool) PacketFault
 macro_mode coding luma bits = if some_coded luma then mode_in coding bits else Ok (0, bits)
 
 -- the modes of all macro blocks in coded order, from the scheme on

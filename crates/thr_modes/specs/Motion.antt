@@ -5,14 +5,13 @@ use Rattle.std.specs.List.{fold, flat_map, position_or_len}
 use Rattle.vid_base.specs.declared.shape.Shape.{Shape}
 use Rattle.vid_base.specs.declared.fault.PacketFault.{PacketFault}
 use Rattle.vid_base.specs.Arithmetic.{rounded}
-use Rattle.vid_base.specs.Reading.{◌>>=◌}
+use Rattle.vid_base.specs.Reading.{◌>>=◌, one_bit}
 use Rattle.vid_geom.specs.CodedOrder.{order_of, same_block}
 use Rattle.vid_geom.specs.MacroBlocks.{columns_in, rows_in, macro_order}
-use Rattle.thr_modes.specs.declared.component.VectorCoding.{VectorCoding}
-use Rattle.thr_modes.specs.declared.component.VectorCoding.TheVariants.{Prefixed, Fixed}
+use Rattle.thr_modes.specs.Forms.{VectorForm, Prefixed, Fixed}
 use Rattle.thr_modes.specs.InOrder.{each}
 use Rattle.thr_modes.specs.LumaFlags.{macro_flags}
-use Rattle.thr_modes.specs.Vectors.{Offset, still, one_bit, vector_in}
+use Rattle.thr_modes.specs.Vectors.{Offset, still, vector_in}
 
 -- the vectors of a macro block: those of its luma blocks, and those of its Cb blocks, which its Cr blocks have too
 pub record Motion : Type 0 where
@@ -69,7 +68,7 @@ unfoldable pub exchanged : Memory → Memory
 exchanged memory = record { last1 = memory.last2; last2 = memory.last1 }
 
 -- the vector of a luma block that may have one of its own: an uncoded one has none, and nothing is read
-unfoldable pub own_vector : VectorCoding → Bool → List Bool → Result (Offset × List Bool) PacketFault
+unfoldable pub own_vector : VectorForm → Bool → List Bool → Result (Offset × List Bool) PacketFault
 own_vector coding coded bits = if coded then vector_in coding bits else Ok (still, bits)
 
 -- the vector of the last coded block; another one where none is coded
@@ -79,7 +78,7 @@ last_coded (coded ∷ luma) [] v = v
 last_coded (coded ∷ luma) (vector ∷ vectors) v = last_coded luma vectors (if coded then vector else v)
 
 -- the vectors of a macro block by its mode, and what is remembered behind it; where mode 7 reads no vector LAST1 stays
-unfoldable pub motion_in : VectorCoding → ℕ → ℕ → List Bool → Memory → List Bool → Result ((Motion × Memory) × List Bool) PacketFault
+unfoldable pub motion_in : VectorForm → ℕ → ℕ → List Bool → Memory → List Bool → Result ((Motion × Memory) × List Bool) PacketFault
 motion_in coding pf mode luma memory bits =
     if mode == 2 then vector_in coding bits >>= (λ v. Ok ((same_motion pf v.0, after v.0 memory), v.1))
     else if mode == 3 then Ok ((same_motion pf memory.last1, memory), bits)
@@ -89,7 +88,7 @@ motion_in coding pf mode luma memory bits =
     else Ok ((same_motion pf still, memory), bits)
 
 -- those of macro blocks one behind the other
-unfoldable pub motions : VectorCoding → ℕ → List ℕ → List (List Bool) → Memory → List Bool → Result (List Motion × List Bool) PacketFault
+unfoldable pub motions : VectorForm → ℕ → List ℕ → List (List Bool) → Memory → List Bool → Result (List Motion × List Bool) PacketFault
 motions coding pf [] lumas memory bits = Ok ([], bits)
 motions coding pf (mode ∷ modes) [] memory bits = Ok ([], bits)
 motions coding pf (mode ∷ modes) (luma ∷ lumas) memory bits =
@@ -101,11 +100,11 @@ unfoldable pub by_block : Shape → List Motion → List Offset
 by_block s motions = map (λ b. get_or (flat_map block_vectors motions) (position_or_len (same_block b) (macro_order s)) still) (order_of s)
 
 -- the vectors of all blocks of a frame in coded order, from the bits behind MVMODE; nothing is remembered at first
-unfoldable pub coded_vectors : VectorCoding → Shape → List Bool → List ℕ → List Bool → Result (List Offset × List Bool) PacketFault
+unfoldable pub coded_vectors : VectorForm → Shape → List Bool → List ℕ → List Bool → Result (List Offset × List Bool) PacketFault
 coded_vectors coding s flags modes bits = motions coding s.pf modes (macro_flags s flags) empty bits >>= (λ read. Ok (by_block s read.0, read.1))
 
 -- how vectors are coded under MVMODE
-unfoldable pub vector_coding : Bool → VectorCoding
+unfoldable pub vector_coding : Bool → VectorForm
 vector_coding mvmode = if mvmode then Fixed else Prefixed
 
 -- the vectors of all blocks, from MVMODE on

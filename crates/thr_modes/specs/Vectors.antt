@@ -1,11 +1,9 @@
 -- Motion vectors, and how they are coded (Theora I, 7.5.1).
-use Rattle.std.specs.Prelude.{ℕ, ℤ, pos, negsuc, neg_ℤ, ◌≤ℤ◌, ◌+◌, ◌==◌, Bool, List, [], ◌∷◌, Result, Ok, Err, if◌then◌else◌}
+use Rattle.std.specs.Prelude.{ℕ, ℤ, pos, negsuc, neg_ℤ, ◌≤ℤ◌, ◌+◌, ◌==◌, Bool, List, Result, Ok, if◌then◌else◌}
 use Rattle.vid_base.specs.declared.shape.Vector.{Vector}
 use Rattle.vid_base.specs.declared.fault.PacketFault.{PacketFault}
-use Rattle.vid_base.specs.declared.fault.PacketFault.TheVariants.{Ended}
-use Rattle.vid_base.specs.Reading.{field, ◌>>=◌}
-use Rattle.thr_modes.specs.declared.component.VectorCoding.{VectorCoding}
-use Rattle.thr_modes.specs.declared.component.VectorCoding.TheVariants.{Prefixed, Fixed}
+use Rattle.vid_base.specs.Reading.{field, one_bit, ◌>>=◌}
+use Rattle.thr_modes.specs.Forms.{VectorForm, Prefixed, Fixed}
 
 -- a motion vector: how far to the right and how far upwards
 pub record Offset : Type 0 where
@@ -23,11 +21,6 @@ IsComponent component = (negsuc 30 ≤ℤ component) × (component ≤ℤ pos 31
 -- no motion
 abbrev pub still : Offset
 still = record { x = pos 0; y = pos 0 }
-
--- a bit as a truth value
-unfoldable pub one_bit : List Bool → Result (Bool × List Bool) PacketFault
-one_bit [] = Err Ended
-one_bit (bit ∷ bits) = Ok (bit, bits)
 
 -- a size with its sign
 unfoldable pub signed : Bool → ℕ → ℤ
@@ -50,10 +43,10 @@ prefixed bits = field 3 bits >>= (λ prefix.
     else sized 16 4 prefix.1)
 
 -- a component: under MVMODE 1 its size has 5 bits
-unfoldable pub component : VectorCoding → List Bool → Result (ℤ × List Bool) PacketFault
+unfoldable pub component : VectorForm → List Bool → Result (ℤ × List Bool) PacketFault
 component Prefixed bits = prefixed bits
 component Fixed bits = sized 0 5 bits
 
 -- a vector: its component to the right, and then the one upwards
-unfoldable pub vector_in : VectorCoding → List Bool → Result (Offset × List Bool) PacketFault
+unfoldable pub vector_in : VectorForm → List Bool → Result (Offset × List Bool) PacketFault
 vector_in coding bits = component coding bits >>= (λ x. component coding x.1 >>= (λ y. Ok (record { x = x.0; y = y.0 }, y.1)))

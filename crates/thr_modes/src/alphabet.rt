@@ -1,9 +1,10 @@
 // How the modes of a frame are coded (Theora I, 7.4).
 ghost use Rattle.std.specs.Prelude.{◌≡◌, ◌+◌, ◌<◌, ◌≤◌, ◌==◌, IfOk, IfSome, length};
 ghost use Rattle.std.specs.List.{list_any, position};
-ghost use Rattle.vid_base.specs.Reading.{Gives, field};
+ghost use Rattle.vid_base.specs.Reading.{Gives, SameEnd, field};
 ghost use Rattle.vid_base.specs.Items.{items};
 ghost use Rattle.thr_modes.specs.Modes.{mode_with, by_rank, own_alphabet, coding_of, rank_in, mode_in};
+ghost use Rattle.thr_modes.specs.Views.{mode_form};
 
 use crate::field::read_field;
 use vid_base::{BitReader, PacketFault};
@@ -28,7 +29,8 @@ const ALPHABETS: [[u8; 8]; 6] = [
 // The ranks of modes 0 to 7.
 #[tactic(auto, using(crate::proofs::EachLemmas::item_more, crate::proofs::EachLemmas::item_fault, crate::proofs::EachLemmas::items_done))]
 fn read_ranks(r: &mut BitReader) -> Result<[u8; 8], PacketFault>
-    ensures { Gives (λ ranks. ranks) result r.new.left (items (field 3) 8 r.old.left) }
+    ensures value { Gives (λ ranks. ranks) result r.new.left (items (field 3) 8 r.old.left) }
+    ensures end { SameEnd r.old r.new }
 {
     let mut ranks = [0u8; 8];
     'ranks: for mode in 0..8usize {
@@ -65,7 +67,8 @@ fn has_gap(alphabet: &[u8]) -> bool
 // The modes by rank. A rank that is missing is seen when all eight were read.
 #[tactic(auto, unfolding(crate::specs::Modes::own_alphabet))]
 fn read_alphabet(r: &mut BitReader) -> Result<[u8; 8], PacketFault>
-    ensures { Gives (λ alphabet. alphabet) result r.new.left (own_alphabet r.old.left) }
+    ensures value { Gives (λ alphabet. alphabet) result r.new.left (own_alphabet r.old.left) }
+    ensures end { SameEnd r.old r.new }
 {
     let ranks = read_ranks(r)?;
     let alphabet = [
@@ -88,7 +91,8 @@ fn read_alphabet(r: &mut BitReader) -> Result<[u8; 8], PacketFault>
 #[tactic(auto, unfolding(crate::specs::Modes::coding_of))]
 pub fn read_coding(r: &mut BitReader, scheme: u32) -> Result<ModeCoding, PacketFault>
     requires { scheme < 8 }
-    ensures { Gives (λ coding. coding) result r.new.left (coding_of scheme r.old.left) }
+    ensures value { Gives mode_form result r.new.left (coding_of scheme r.old.left) }
+    ensures end { SameEnd r.old r.new }
 {
     match scheme {
         0 => Ok(ModeCoding::Ranked(read_alphabet(r)?)),
@@ -102,6 +106,7 @@ pub fn read_coding(r: &mut BitReader, scheme: u32) -> Result<ModeCoding, PacketF
 fn read_rank(r: &mut BitReader) -> Result<usize, PacketFault>
     ensures value { Gives (λ rank. rank) result r.new.left (rank_in 7 r.old.left) }
     ensures small { IfOk result (λ rank. rank < 8) }
+    ensures end { SameEnd r.old r.new }
 {
     'bits: for rank in 0..7usize {
         if !r.bit()? {
@@ -114,7 +119,8 @@ fn read_rank(r: &mut BitReader) -> Result<usize, PacketFault>
 /// A mode.
 #[tactic(auto, unfolding(crate::specs::Modes::mode_in))]
 pub fn read_mode(r: &mut BitReader, coding: &ModeCoding) -> Result<u8, PacketFault>
-    ensures { Gives (λ mode. mode) result r.new.left (mode_in coding.now r.old.left) }
+    ensures value { Gives (λ mode. mode) result r.new.left (mode_in (mode_form coding.now) r.old.left) }
+    ensures end { SameEnd r.old r.new }
 {
     match coding {
         ModeCoding::Ranked(alphabet) => Ok(alphabet[read_rank(r)?]),

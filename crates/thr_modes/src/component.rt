@@ -1,8 +1,10 @@
 // Motion vectors and their components in a packet (Theora I, 7.5.1).
 ghost use Rattle.std.specs.Prelude.{◌≡◌, ◌+◌, ◌<◌, ◌≤◌, ◌^◌, ◌∷◌, ◌++◌, [], Bool, List, IfOk, OnOk, OnErr};
-ghost use Rattle.vid_base.specs.Reading.{Gives};
+ghost use Rattle.vid_base.specs.Reading.{Gives, SameEnd};
+ghost use Rattle.vid_base.specs.Writing.{AddsBit, Grows};
 ghost use Rattle.thr_modes.specs.Vectors.{signed, sized, prefixed, component, vector_in, offset_of, IsComponent};
 ghost use Rattle.thr_modes.specs.WrittenVectors.{component_code, vector_code};
+ghost use Rattle.thr_modes.specs.Views.{vector_form};
 
 use crate::field::read_field;
 use vid_base::{BitReader, BitWriter, NoMem, PacketFault, Vector};
@@ -25,12 +27,13 @@ fn signed(negative: bool, size: u8) -> i8
 }
 
 // A component whose size is counted from the least one by so many bits, with its sign behind them.
-#[tactic(auto, unfolding(crate::specs::Vectors::sized, crate::specs::Vectors::one_bit))]
+#[tactic(auto, unfolding(crate::specs::Vectors::sized, vid_base::specs::Reading::one_bit))]
 fn read_sized(r: &mut BitReader, least: u8, width: u32) -> Result<i8, PacketFault>
     requires width { width ≤ 5 }
     requires size { least + 2 ^ width ≤ 32 }
     ensures value { Gives (λ component. component) result r.new.left (sized least width r.old.left) }
     ensures small { IfOk result IsComponent }
+    ensures end { SameEnd r.old r.new }
 {
     let size = least + read_field(r, width)?;
     Ok(signed(r.bit()?, size))
@@ -41,6 +44,7 @@ fn read_sized(r: &mut BitReader, least: u8, width: u32) -> Result<i8, PacketFaul
 fn read_prefixed(r: &mut BitReader) -> Result<i8, PacketFault>
     ensures value { Gives (λ component. component) result r.new.left (prefixed r.old.left) }
     ensures small { IfOk result IsComponent }
+    ensures end { SameEnd r.old r.new }
 {
     match r.take(3)? {
         0 => Ok(0),
@@ -57,8 +61,9 @@ fn read_prefixed(r: &mut BitReader) -> Result<i8, PacketFault>
 // A component.
 #[tactic(auto, unfolding(crate::specs::Vectors::component))]
 fn read_component(r: &mut BitReader, coding: VectorCoding) -> Result<i8, PacketFault>
-    ensures value { Gives (λ component. component) result r.new.left (component coding r.old.left) }
+    ensures value { Gives (λ component. component) result r.new.left (component (vector_form coding) r.old.left) }
     ensures small { IfOk result IsComponent }
+    ensures end { SameEnd r.old r.new }
 {
     match coding {
         VectorCoding::Prefixed => read_prefixed(r),
@@ -69,7 +74,8 @@ fn read_component(r: &mut BitReader, coding: VectorCoding) -> Result<i8, PacketF
 /// A vector: its component to the right, and then the one upwards.
 #[tactic(auto, unfolding(crate::specs::Vectors::vector_in, crate::specs::Vectors::offset_of))]
 pub fn read_vector(r: &mut BitReader, coding: VectorCoding) -> Result<Vector, PacketFault>
-    ensures { Gives offset_of result r.new.left (vector_in coding r.old.left) }
+    ensures value { Gives offset_of result r.new.left (vector_in (vector_form coding) r.old.left) }
+    ensures end { SameEnd r.old r.new }
 {
     let x = read_component(r, coding)?;
     let y = read_component(r, coding)?;
@@ -78,8 +84,8 @@ pub fn read_vector(r: &mut BitReader, coding: VectorCoding) -> Result<Vector, Pa
 
 /// Adds a bit.
 pub fn write_bit(w: &mut BitWriter, bit: bool) -> Result<(), NoMem>
-    ensures written { OnOk result (w.new ≡ w.old ++ bit ∷ []) }
-    ensures memory { OnErr result ((more : List Bool) × (w.new ≡ w.old ++ more)) }
+    ensures written { OnOk result (AddsBit bit w.old w.new) }
+    ensures memory { OnErr result (Grows w.old w.new) }
 {
     w.put(u32::from(bit), 1)
 }
@@ -89,7 +95,7 @@ pub fn write_bit(w: &mut BitWriter, bit: bool) -> Result<(), NoMem>
 fn write_component(w: &mut BitWriter, component: i8) -> Result<(), NoMem>
     requires { IsComponent component }
     ensures written { OnOk result (w.new ≡ w.old ++ component_code component) }
-    ensures memory { OnErr result ((more : List Bool) × (w.new ≡ w.old ++ more)) }
+    ensures memory { OnErr result (Grows w.old w.new) }
 {
     w.put(u32::from(component.unsigned_abs()), 5)?;
     write_bit(w, component < 0)
@@ -99,7 +105,7 @@ fn write_component(w: &mut BitWriter, component: i8) -> Result<(), NoMem>
 #[tactic(auto, unfolding(crate::specs::WrittenVectors::vector_code, crate::specs::Vectors::offset_of))]
 pub fn write_vector(w: &mut BitWriter, vector: Vector) -> Result<(), NoMem>
     ensures written { OnOk result (w.new ≡ w.old ++ vector_code (offset_of vector)) }
-    ensures memory { OnErr result ((more : List Bool) × (w.new ≡ w.old ++ more)) }
+    ensures memory { OnErr result (Grows w.old w.new) }
 {
     write_component(w, vector.x)?;
     write_component(w, vector.y)

@@ -6,8 +6,8 @@ ghost use Rattle.thr_modes.specs.LumaFlags.{macro_flags};
 
 use vid_geom::Geom;
 
-// The flags at four places.
-fn flags_at(flags: &[bool], places: [u32; 4]) -> [bool; 4]
+/// The flags at four places.
+pub fn flags_at(flags: &[bool], places: [u32; 4]) -> [bool; 4]
     requires { All (λ place. place < length flags.now) places }
     ensures { result ≡ map (λ place. get_or flags.now place false) places }
 {
@@ -25,5 +25,5 @@ pub fn luma_flags(geom: &Geom, flags: &[bool], m: u32) -> [bool; 4]
     requires m { m < length (macro_blocks geom.now) }
     ensures { slice_get (macro_flags geom.now flags.now) m ≡ Some result }
 {
-    flags_at(flags, geom.macro_block(m).luma)
+    flags_at(flags, geom.luma_places(m))
 }

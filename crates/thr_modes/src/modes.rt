@@ -1,12 +1,14 @@
 // The modes of the macro blocks, read and written (Theora I, 7.4).
-ghost use Rattle.std.specs.Prelude.{◌≡◌, ℕ, ◌<◌, ◌++◌, [], Bool, false, List, All, OnOk, OnErr, length, slice_get, Some};
-ghost use Rattle.vid_base.specs.Reading.{Gives, GivesOrNoMem};
+ghost use Rattle.std.specs.Prelude.{◌≡◌, ℕ, ◌+◌, ◌*◌, ◌<◌, ◌≤◌, ◌++◌, [], Bool, false, List, All, OnOk, OnErr, length, slice_get, Some};
+ghost use Rattle.vid_base.specs.Reading.{Gives, GivesOrNoMem, KeptOnNoMem, SameEnd};
+ghost use Rattle.vid_base.specs.Writing.{Grows, ReadsBack};
 ghost use Rattle.vid_geom.specs.CodedOrder.{order_of};
 ghost use Rattle.vid_geom.specs.MacroBlocks.{macro_blocks};
-ghost use Rattle.thr_modes.specs.InOrder.{each, Adds};
+ghost use Rattle.thr_modes.specs.InOrder.{each};
 ghost use Rattle.thr_modes.specs.LumaFlags.{macro_flags, some_coded};
 ghost use Rattle.thr_modes.specs.Written.{mode_code, modes_code};
 ghost use Rattle.thr_modes.specs.Modes.{macro_mode, modes_of, ZeroWhereUncoded};
+ghost use Rattle.thr_modes.specs.Views.{mode_form};
 
 use crate::alphabet::{ModeCoding, read_coding, read_mode};
 use crate::luma::luma_flags;
@@ -27,7 +29,8 @@ fn read_macro_mode(
     coding: &ModeCoding,
     luma: [bool; 4],
 ) -> Result<u8, PacketFault>
-    ensures { Gives (λ mode. mode) result r.new.left (macro_mode coding.now luma r.old.left) }
+    ensures value { Gives (λ mode. mode) result r.new.left (macro_mode (mode_form coding.now) luma r.old.left) }
+    ensures end { SameEnd r.old r.new }
 {
     if some_coded(luma) {
         read_mode(r, coding)
@@ -47,7 +50,8 @@ fn read_macro_modes(
 ) -> Result<(), PacketFault>
     requires flags { length flags.now ≡ length (order_of geom.now) }
     requires modes { length modes.old ≡ length (macro_blocks geom.now) }
-    ensures { Gives (λ _. modes.new) result r.new.left (each (macro_mode coding.now) (macro_flags geom.now flags.now) r.old.left) }
+    ensures value { Gives (λ _. modes.new) result r.new.left (each (macro_mode (mode_form coding.now)) (macro_flags geom.now flags.now) r.old.left) }
+    ensures end { SameEnd r.old r.new }
 {
     'macro_blocks: for m in 0..geom.macro_blocks() {
         modes[m as usize] = read_macro_mode(r, coding, luma_flags(geom, flags, m))?;
@@ -69,6 +73,7 @@ pub fn read_modes_in(
     ensures value { Gives (λ _. modes.new) result r.new.left (modes_of geom.now flags.now r.old.left) }
     ensures small { OnOk result (All (λ mode. mode < 8) modes.new) }
     ensures uncoded { OnOk result (ZeroWhereUncoded (macro_flags geom.now flags.now) modes.new) }
+    ensures end { SameEnd r.old r.new }
 {
     let scheme = r.take(3)?;
     let coding = read_coding(r, scheme)?;
@@ -88,10 +93,15 @@ pub fn read_modes(
     ensures value { GivesOrNoMem (λ _. modes.new.items) result r.new.left (modes_of geom.now flags.now r.old.left) }
     ensures small { OnOk result (All (λ mode. mode < 8) modes.new.items) }
     ensures uncoded { OnOk result (ZeroWhereUncoded (macro_flags geom.now flags.now) modes.new.items) }
+    ensures sized { OnOk result (length modes.new.items ≡ length (macro_blocks geom.now)) }
     ensures emptied { OnErr result (modes.new.items ≡ []) }
+    ensures memory { KeptOnNoMem result r.old r.new }
+    ensures end { SameEnd r.old r.new }
 {
-    modes.clear();
-    modes.resize(geom.macro_blocks() as usize, 0)?;
+    if modes.resize(geom.macro_blocks() as usize, 0).is_err() {
+        modes.clear();
+        return Err(Refusal::NoMem);
+    }
     let read = read_modes_in(r, geom, flags, modes);
     if read.is_err() {
         modes.clear();
@@ -104,7 +114,7 @@ pub fn read_modes(
 fn write_macro_mode(w: &mut BitWriter, luma: [bool; 4], mode: u8) -> Result<(), NoMem>
     requires { mode < 8 }
     ensures written { OnOk result (w.new ≡ w.old ++ mode_code luma mode) }
-    ensures memory { OnErr result ((more : List Bool) × (w.new ≡ w.old ++ more)) }
+    ensures memory { OnErr result (Grows w.old w.new) }
 {
     if some_coded(luma) {
         w.put(u32::from(mode), 3)?;
@@ -124,7 +134,7 @@ fn write_macro_modes(
     requires modes { length modes.now ≡ length (macro_blocks geom.now) }
     requires small { All (λ mode. mode < 8) modes.now }
     ensures written { OnOk result (w.new ≡ w.old ++ modes_code (macro_flags geom.now flags.now) modes.now) }
-    ensures memory { OnErr result ((more : List Bool) × (w.new ≡ w.old ++ more)) }
+    ensures memory { OnErr result (Grows w.old w.new) }
 {
     'macro_blocks: for m in 0..geom.macro_blocks() {
         write_macro_mode(w, luma_flags(geom, flags, m), modes[m as usize])?;
@@ -145,8 +155,9 @@ pub fn write_modes(
     requires flags { length flags.now ≡ length (order_of geom.now) }
     requires modes { length modes.now ≡ length (macro_blocks geom.now) }
     requires small { All (λ mode. mode < 8) modes.now }
-    ensures reads_back { ZeroWhereUncoded (macro_flags geom.now flags.now) modes.now → OnOk result (Adds (modes_of geom.now flags.now) modes.now w.old w.new) }
-    ensures memory { OnErr result ((more : List Bool) × (w.new ≡ w.old ++ more)) }
+    ensures reads_back { ZeroWhereUncoded (macro_flags geom.now flags.now) modes.now → OnOk result (ReadsBack (modes_of geom.now flags.now) modes.now w.old w.new) }
+    ensures few { OnOk result (length w.new ≤ length w.old + (3 + 3 * length (macro_blocks geom.now))) }
+    ensures memory { OnErr result (Grows w.old w.new) }
 {
     w.put(7, 3)?;
     write_macro_modes(w, geom, flags, modes)?;

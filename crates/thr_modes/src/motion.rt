@@ -1,10 +1,10 @@
 // The motion vectors of one macro block (Theora I, 7.5.2).
 ghost use Rattle.std.specs.Prelude.{◌≡◌, ℕ, map, take};
-ghost use Rattle.vid_base.specs.Reading.{Gives};
+ghost use Rattle.vid_base.specs.Reading.{Gives, SameEnd};
 ghost use Rattle.thr_modes.specs.InOrder.{each};
 ghost use Rattle.thr_modes.specs.Vectors.{offset_of};
 ghost use Rattle.thr_modes.specs.Motion.{chroma_count, chroma_of, same_motion, own_motion, after, exchanged, empty, own_vector, last_coded, motion_in};
-ghost use Rattle.thr_modes.specs.Views.{motion_of, memory_of};
+ghost use Rattle.thr_modes.specs.Views.{motion_of, memory_of, vector_form};
 
 use crate::component::{VectorCoding, read_vector};
 use crate::mean::{mean_of_four, mean_of_two};
@@ -87,7 +87,8 @@ fn read_own_vector(
     coding: VectorCoding,
     coded: bool,
 ) -> Result<Vector, PacketFault>
-    ensures { Gives offset_of result r.new.left (own_vector coding coded r.old.left) }
+    ensures value { Gives offset_of result r.new.left (own_vector (vector_form coding) coded r.old.left) }
+    ensures end { SameEnd r.old r.new }
 {
     if coded {
         read_vector(r, coding)
@@ -102,7 +103,8 @@ fn read_own_vectors(
     coding: VectorCoding,
     luma: [bool; 4],
 ) -> Result<[Vector; 4], PacketFault>
-    ensures { Gives (map offset_of) result r.new.left (each (own_vector coding) luma r.old.left) }
+    ensures value { Gives (map offset_of) result r.new.left (each (own_vector (vector_form coding)) luma r.old.left) }
+    ensures end { SameEnd r.old r.new }
 {
     let mut vectors = [STILL; 4];
     'luma: for b in 0..4usize {
@@ -169,7 +171,8 @@ pub fn read_motion(
     luma: [bool; 4],
     remembered: Remembered,
 ) -> Result<(MacroVectors, Remembered), PacketFault>
-    ensures { Gives (λ read. (motion_of pf read.0, memory_of read.1)) result r.new.left (motion_in coding pf mode luma (memory_of remembered) r.old.left) }
+    ensures value { Gives (λ read. (motion_of pf read.0, memory_of read.1)) result r.new.left (motion_in (vector_form coding) pf mode luma (memory_of remembered) r.old.left) }
+    ensures end { SameEnd r.old r.new }
 {
     match mode {
         INTER_MV => {

@@ -103,34 +103,51 @@ fn components(alloc: Global, vectors: &[Vector]) -> Result<Vec<i8>, AllocError> 
     Ok(components)
 }
 
-// What both readers give, which is to be the same.
+// The components of the vectors or the fault, which both calls have to answer alike, leaving as many bits.
 fn read(
     rt: &impl Abort,
     alloc: Global,
     r: &mut BitReader,
-    again: &mut BitReader,
     geom: &Geom,
     flags: &[bool],
     modes: &[u8],
-) -> Result<Vec<i8>, Fail> {
+) -> Result<Result<Vec<i8>, PacketFault>, AllocError> {
     assert!(rt; flags.len() == geom.blocks() as usize);
     assert!(rt; modes.len() == geom.macro_blocks() as usize);
+    let mut again = r.copy();
     let mut vectors = Vec::new(alloc);
-    assert_eq!(rt; read_vectors(r, geom, flags, modes, &mut vectors), Ok(()));
+    let answer = read_vectors(r, geom, flags, modes, &mut vectors);
     let mut lent = vec![in alloc; Vector { x: 9, y: 9 }; flags.len()]?;
-    assert_eq!(rt;
-        read_vectors_in(again, geom, flags, modes, &mut lent),
-        Ok(())
-    );
-    assert!(rt; lent.as_slice() == vectors.as_slice());
-    Ok(components(alloc, &vectors)?)
+    let second = read_vectors_in(&mut again, geom, flags, modes, &mut lent);
+    assert!(rt; left(r) == left(&again));
+    match second {
+        Ok(()) => {
+            assert_eq!(rt; answer, Ok(()));
+            assert!(rt; lent.as_slice() == vectors.as_slice());
+            Ok(Ok(components(alloc, &vectors)?))
+        }
+        Err(fault) => {
+            assert_eq!(rt; answer, Err(Refusal::Bad(fault)));
+            assert!(rt; vectors.is_empty());
+            Ok(Err(fault))
+        }
+    }
 }
 
-// How many bits are left, of at most 8.
-fn left(r: &mut BitReader) -> usize {
+// Whether these components were read.
+fn is(read: &Result<Vec<i8>, PacketFault>, components: &[i8]) -> bool {
+    match read {
+        Ok(got) => got.as_slice() == components,
+        Err(_) => false,
+    }
+}
+
+// How many bits are left, of at most 8, which are looked at and not taken.
+fn left(r: &BitReader) -> usize {
+    let mut ahead = r.copy();
     let mut count = 0usize;
     for _ in 0..8 {
-        if r.bit().is_ok() {
+        if ahead.bit().is_ok() {
             count = count.saturating_add(1);
         }
     }
@@ -143,12 +160,10 @@ fn a_vector_is_read_under_both_codings(rt: HostRuntime) -> Result<(), Fail> {
     let flags = vec![in rt.alloc(); true; geom.blocks() as usize]?;
     for (bytes, rest, [x, y]) in CODED {
         let mut r = BitReader::new(bytes);
-        let mut again = BitReader::new(bytes);
-        let vectors = read(&rt, rt.alloc(), &mut r, &mut again, &geom, &flags, &[2])?;
+        let vectors = read(&rt, rt.alloc(), &mut r, &geom, &flags, &[2])?;
         let six = [x, y, x, y, x, y, x, y, x, y, x, y];
-        assert_eq!(rt; vectors.as_slice(), six.as_slice());
-        assert_eq!(rt; left(&mut r), rest, "({x}, {y})");
-        assert_eq!(rt; left(&mut again), rest, "({x}, {y})");
+        assert!(rt; is(&vectors, &six), "({x}, {y})");
+        assert_eq!(rt; left(&r), rest, "({x}, {y})");
     }
     Ok(())
 }
@@ -159,12 +174,19 @@ fn vectors_are_remembered_from_macro_block_to_macro_block(rt: HostRuntime) -> Re
     let flags = vec![in rt.alloc(); true; geom.blocks() as usize]?;
     for (modes, coded, expected) in REMEMBERED {
         let bytes = packet(rt.alloc(), coded)?;
-        let mut r = BitReader::new(&bytes);
-        let mut again = BitReader::new(&bytes);
-        let vectors = read(&rt, rt.alloc(), &mut r, &mut again, &geom, &flags, &modes)?;
-        assert_eq!(rt; vectors.len(), 48);
-        let of_cb = &vectors.as_slice()[32..40];
-        assert_eq!(rt; of_cb, expected.as_slice(), "modes {modes:?}");
+        let vectors = read(
+            &rt,
+            rt.alloc(),
+            &mut BitReader::new(&bytes),
+            &geom,
+            &flags,
+            &modes,
+        )?;
+        let vectors = vectors.expect(&rt, "no vectors");
+        assert!(rt;
+            vectors.get(32..40) == Some(expected.as_slice()),
+            "modes {modes:?}"
+        );
     }
     Ok(())
 }
@@ -177,10 +199,15 @@ fn each_luma_block_has_its_own_vector_and_chroma_has_means(rt: HostRuntime) -> R
         assert!(rt; flags.len() > 2);
         flags[2] = last;
         let bytes = packet(rt.alloc(), coded)?;
-        let mut r = BitReader::new(&bytes);
-        let mut again = BitReader::new(&bytes);
-        let vectors = read(&rt, rt.alloc(), &mut r, &mut again, &geom, &flags, &[7, 3])?;
-        assert_eq!(rt; vectors.as_slice(), expected, "format {pf}");
+        let vectors = read(
+            &rt,
+            rt.alloc(),
+            &mut BitReader::new(&bytes),
+            &geom,
+            &flags,
+            &[7, 3],
+        )?;
+        assert!(rt; is(&vectors, expected), "format {pf}");
     }
     Ok(())
 }
@@ -193,21 +220,9 @@ fn vectors_end_early_at_each_cut(rt: HostRuntime) -> Result<(), Fail> {
     let bytes = packet(rt.alloc(), &[1, 2, 3, 4, 5, 6, 7, 8])?;
     assert_eq!(rt; bytes.len(), 7);
     for cut in 0..7usize {
-        let rest = &bytes.as_slice()[..cut];
-        let mut vectors = Vec::new(rt.alloc());
-        let refused = read_vectors(
-            &mut BitReader::new(rest),
-            &geom,
-            &flags,
-            &modes,
-            &mut vectors,
-        );
-        assert_eq!(rt;
-            refused,
-            Err(Refusal::Bad(PacketFault::Ended)),
-            "{cut} bytes"
-        );
-        assert!(rt; vectors.is_empty());
+        let mut r = BitReader::new(&bytes.as_slice()[..cut]);
+        let refused = read(&rt, rt.alloc(), &mut r, &geom, &flags, &modes)?;
+        assert!(rt; refused == Err(PacketFault::Ended), "{cut} bytes");
     }
     Ok(())
 }
@@ -218,27 +233,44 @@ fn next(seed: &mut u32) -> u32 {
     *seed >> 16
 }
 
-// Vectors of any bits, for any flags and modes, and those that are read when they were written.
-fn read_and_written(
+// Bytes that look random.
+fn drawn_bytes(alloc: Global, count: usize, seed: &mut u32) -> Result<Vec<u8>, AllocError> {
+    let mut bytes = vec![in alloc; 0u8; count]?;
+    for byte in bytes.iter_mut() {
+        *byte = (next(seed) % 256) as u8;
+    }
+    Ok(bytes)
+}
+
+// Modes and vectors of any bits, for any flags: written, they are read again.
+fn are_read_again(
     rt: &impl Abort,
     alloc: Global,
     geom: &Geom,
     seed: &mut u32,
-) -> Result<(Vec<i8>, Vec<i8>), Fail> {
+) -> Result<bool, AllocError> {
     let mut flags = vec![in alloc; false; geom.blocks() as usize]?;
     for flag in flags.iter_mut() {
         *flag = next(seed) % 4 != 0;
     }
-    let mut modes = vec![in alloc; 0u8; geom.macro_blocks() as usize]?;
-    for mode in modes.iter_mut() {
-        *mode = (next(seed) % 8) as u8;
+    let mut bytes = drawn_bytes(alloc, 8 + 2 * flags.len(), seed)?;
+    // Schemes 4 to 7 have no list of their own that could be refused.
+    if let Some(first) = bytes.first_mut() {
+        *first = 128 + *first % 128;
     }
-    let mut bytes = vec![in alloc; 0u8; 1 + 2 * flags.len()]?;
-    for byte in bytes.iter_mut() {
-        *byte = (next(seed) % 256) as u8;
-    }
-    let mut vectors = Vec::new(alloc);
+    let mut modes = Vec::new(alloc);
     let mut r = BitReader::new(&bytes);
+    if read_modes(&mut r, geom, &flags, &mut modes).is_err() {
+        return Ok(false);
+    }
+    let mut w = BitWriter::new(alloc);
+    assert_eq!(rt; write_modes(&mut w, geom, &flags, &modes), Ok(()));
+    let written = w.finish();
+    let mut back = Vec::new(alloc);
+    let answer = read_modes(&mut BitReader::new(&written), geom, &flags, &mut back);
+    assert_eq!(rt; answer, Ok(()));
+    assert!(rt; back.as_slice() == modes.as_slice());
+    let mut vectors = Vec::new(alloc);
     assert_eq!(rt;
         read_vectors(&mut r, geom, &flags, &modes, &mut vectors),
         Ok(())
@@ -250,22 +282,39 @@ fn read_and_written(
         Ok(())
     );
     let written = w.finish();
-    let mut r = BitReader::new(&written);
-    let mut again = BitReader::new(&written);
-    let back = read(rt, alloc, &mut r, &mut again, geom, &flags, &modes)?;
-    Ok((components(alloc, &vectors)?, back))
+    let back = read(
+        rt,
+        alloc,
+        &mut BitReader::new(&written),
+        geom,
+        &flags,
+        &modes,
+    )?;
+    Ok(is(&back, &components(alloc, &vectors)?))
 }
 
+/// Columns, rows and formats of frames, the greatest among them, and how many of each are drawn.
+const SHAPES: [(u16, u16, u8, u32); 8] = [
+    (1, 1, 0, 16),
+    (2, 1, 2, 16),
+    (1, 2, 3, 16),
+    (3, 3, 0, 16),
+    (3, 3, 2, 16),
+    (3, 3, 3, 16),
+    (65_535, 2, 3, 1),
+    (512, 256, 3, 1),
+];
+
 #[test]
-fn vectors_of_any_bits_are_read_again_when_they_were_written(rt: HostRuntime) -> Result<(), Fail> {
+fn modes_and_vectors_of_any_bits_are_read_again_when_they_were_written(
+    rt: HostRuntime,
+) -> Result<(), Fail> {
     let mut seed = 7;
-    for (across, upwards) in [(1, 1), (2, 1), (1, 2), (3, 3)] {
-        for pf in [0, 2, 3] {
-            let geom = frame(&rt, rt.alloc(), across, upwards, pf);
-            for _ in 0..16 {
-                let (vectors, back) = read_and_written(&rt, rt.alloc(), &geom, &mut seed)?;
-                assert!(rt; vectors.as_slice() == back.as_slice());
-            }
+    for (across, upwards, pf, count) in SHAPES {
+        let geom = frame(&rt, rt.alloc(), across, upwards, pf);
+        for _ in 0..count {
+            let same = are_read_again(&rt, rt.alloc(), &geom, &mut seed)?;
+            assert!(rt; same, "{across} by {upwards} of format {pf}");
         }
     }
     Ok(())

@@ -8,3 +8,4 @@ pub mod TableLemmas
 pub mod MacroBlockLemmas
 pub mod SuperblockLemmas
 pub mod OwnerLemmas
+pub mod ByBlockLemmas

@@ -1,5 +1,5 @@
 -- The blocks of all macro blocks are each block of the frame once. Geom and the layers above cite these.
-use Rattle.std.proofs.Common.{◌≡◌, ◌∙◌, ℕ, zero, suc, ◌+◌, ◌-◌, ◌*◌, ◌/◌, ◌%◌, ◌<◌, ◌≤◌, Bool, true, false, ◌||◌, ◌==◌, if◌then◌else◌, List, [], ◌∷◌, ◌++◌, length, get_or, map, take, replicate, Some, slice_get, refl, sym, subst, arith}
+use Rattle.std.proofs.Common.{◌≡◌, ◌∙◌, ℕ, zero, suc, ◌+◌, ◌-◌, ◌*◌, ◌/◌, ◌%◌, ◌<◌, ◌≤◌, true, ◌==◌, if◌then◌else◌, List, [], ◌∷◌, ◌++◌, length, get_or, map, take, replicate, Some, slice_get, refl, sym, subst, arith}
 use Rattle.std.specs.List.{flat_map, range_with_len, All, Contains}
 use Rattle.std.proofs.Math.Nat.{mul_comm, div-add-mod}
 use Rattle.std.proofs.lemmas.Nat.{div-mul-add, mod-mul-add, div_below, mod_below, column_fits}
@@ -270,7 +270,7 @@ filled_below s pli c p col row =
     (All-replicate (λ place. place < length (order_of s)) (4 - length places) 0 (some_blocks s))
 
 -- in luma all four numbers count
-luma_filled : (s : Shape) (c : Cell) → filled (map (place_of s) (blocks_in s.pf 0 c)) ≡ map (place_of s) (blocks_in s.pf 0 c)
+pub luma_filled : (s : Shape) (c : Cell) → filled (map (place_of s) (blocks_in s.pf 0 c)) ≡ map (place_of s) (blocks_in s.pf 0 c)
 luma_filled s c =
     let long : length (map (place_of s) (blocks_in s.pf 0 c)) ≡ 4 = length-map (blocks_in s.pf 0 c) (place_of s) ∙ length-blocks_in s.pf 0 c in
     rw long (append-nil (map (place_of s) (blocks_in s.pf 0 c)))

@@ -104,13 +104,13 @@ same_parts : (a b : Block) → a.pli ≡ b.pli → a.col ≡ b.col → a.row ≡
 same_parts a b pli col row = ap (λ n. record { pli = n; col = a.col; row = a.row }) pli ∙ ap (λ n. record { pli = b.pli; col = n; row = a.row }) col ∙ ap (λ n. record { pli = b.pli; col = b.col; row = n }) row
 
 -- blocks that the test takes for one are one
-same_is : (a b : Block) → same_block a b ≡ true → a ≡ b
+pub same_is : (a b : Block) → same_block a b ≡ true → a ≡ b
 same_is a b h = same_parts a b (grind (arith, nat_tests)) (grind (arith, nat_tests)) (grind (arith, nat_tests))
 
-same_self : (b : Block) → same_block b b ≡ true
+pub same_self : (b : Block) → same_block b b ≡ true
 same_self b = grind (arith, nat_tests)
 
-not_true : (b : Bool) → (b ≡ true → ⊥) → b ≡ false
+pub not_true : (b : Bool) → (b ≡ true → ⊥) → b ≡ false
 not_true true h = absurd (h refl)
 not_true false h = refl
 

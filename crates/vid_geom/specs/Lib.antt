@@ -2,4 +2,5 @@ pub mod Squares
 pub mod Tables
 pub mod CodedOrder
 pub mod MacroBlocks
+pub mod ByBlock
 pub mod Layout

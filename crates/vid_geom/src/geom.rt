@@ -2,10 +2,12 @@
 ghost use Rattle.std.specs.Prelude.{◌≡◌, ◌+◌, ◌*◌, ◌<◌, ◌≤◌, ◌^◌, ◌++◌, Some, IfOk, IsSomeAnd, All, length, map, slice_get, take};
 ghost use Rattle.vid_geom.specs.Squares.{joined, cell, cells, moved};
 ghost use Rattle.vid_geom.specs.CodedOrder.{block_columns, block_rows, block_grid, plane_blocks, blocks_before, block_of, IsBlock, IsPlaceIn, NamesEachOnce, order_of, place_of, superblocks, superblock_ranges};
+ghost use Rattle.vid_geom.specs.ByBlock.{OwnBlocks};
 ghost use Rattle.vid_geom.specs.MacroBlocks.{columns_in, rows_in, blocks_in, filled, macro_blocks, macro_grid, macro_order, IsMacroBlock};
 
 use crate::block::{Block, MacroBlock};
-use crate::grid::{Cell, Grid, Walk};
+use crate::grid::Cell;
+use crate::layout::{block_grid, columns_in, macro_grid, rows_in};
 use crate::plane::Plane;
 use crate::tables::cells_of;
 use std::alloc::Global;
@@ -31,43 +33,6 @@ impl Model for Geom {
     ghost view = { λ g. g.shape };
 
     ghost invariant = { λ g. IsLayout g.shape g.luma g.chroma g.macro_blocks.items };
-}
-
-// The blocks of a plane as a grid of superblocks.
-fn block_grid(shape: Shape, pli: u8) -> Grid
-    requires { pli < 3 }
-    ensures { result ≡ block_grid shape pli }
-{
-    Grid {
-        walk: Walk::Hilbert,
-        width: shape.width(pli) / 8,
-        height: shape.height(pli) / 8,
-    }
-}
-
-// The macro blocks of a frame as a grid of the luma superblocks.
-fn macro_grid(shape: Shape) -> Grid
-    ensures { result ≡ macro_grid shape }
-{
-    Grid {
-        walk: Walk::Clockwise,
-        width: u32::from(shape.fmbw),
-        height: u32::from(shape.fmbh),
-    }
-}
-
-// How many columns of blocks a macro block has in a plane.
-fn columns_in(pf: u8, pli: u8) -> u32
-    ensures { result ≡ columns_in pf pli }
-{
-    if pli == 0 || pf == 3 { 2 } else { 1 }
-}
-
-// How many rows of blocks a macro block has in a plane.
-fn rows_in(pf: u8, pli: u8) -> u32
-    ensures { result ≡ rows_in pf pli }
-{
-    if pli == 0 || pf != 0 { 2 } else { 1 }
 }
 
 impl Geom {
@@ -217,6 +182,7 @@ impl Geom {
         ensures value { result ≡ length (macro_blocks self.now) }
         ensures product { result ≡ self.now.fmbw * self.now.fmbh }
         ensures each_once { NamesEachOnce self.now (macro_order self.now) }
+        ensures own { OwnBlocks self.now }
     {
         u32::from(self.shape.fmbw) * u32::from(self.shape.fmbh)
     }
@@ -269,6 +235,16 @@ impl Geom {
             self.place_in(pli, at, 0, 1),
             self.place_in(pli, at, 1, 1),
         ]
+    }
+
+    /// The coded places of the luma blocks of a macro block, as `macro_block` has them, without those of chroma.
+    pub fn luma_places(&self, m: u32) -> [u32; 4]
+        requires { m < length (macro_blocks self.now) }
+        ensures value { IsSomeAnd (slice_get (macro_blocks self.now) m) (λ area. result ≡ map (place_of self.now) area.luma) }
+        ensures luma { All (IsPlaceIn self.now 0) result }
+        ensures below { All (λ place. place < length (order_of self.now)) result }
+    {
+        self.places_in(0, self.macro_cell(m))
     }
 
     /// The coded places of the blocks of a macro block. Macro blocks are counted in coded order.

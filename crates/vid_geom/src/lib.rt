@@ -8,6 +8,7 @@
 mod block;
 mod geom;
 mod grid;
+mod layout;
 mod plane;
 mod tables;
 

@@ -34,3 +34,8 @@ pub returns-clause-reads_back : goal.returns-clause-reads_back
 returns-clause-reads_back c =
     let all = rw (all_parts c.args.geom.now c.args.flags.now c.superblocks.s (omega arith)) at c.superblocks.invariant.holds in
     on_ok c.close.result (λ back. back c.args.w.now (fully_in (parts (sizes_of c.args.geom.now) c.args.flags.now)) all) c.close.ensures.reads_back
+
+pub returns-clause-few : goal.returns-clause-few
+returns-clause-few c =
+    let all = rw (all_parts c.args.geom.now c.args.flags.now c.superblocks.s (omega arith)) at c.superblocks.invariant.holds in
+    on_ok c.close.result (λ few. few c.args.w.now (fully_in (parts (sizes_of c.args.geom.now) c.args.flags.now)) all) c.close.ensures.few

@@ -1,5 +1,5 @@
 use Rattle.std.proofs.Common.{IfSome, take}
-use Rattle.thr_flags.specs.declared.runs.RunCode.TheVariants.{Long}
+use Rattle.thr_flags.specs.RunStrings.{Long}
 use Rattle.thr_flags.specs.Flags.{sizes_of}
 use Rattle.thr_flags.specs.WrittenFlags.{partly_in, parts}
 use Rattle.thr_flags.specs.Writing.{Holds, IsRun}

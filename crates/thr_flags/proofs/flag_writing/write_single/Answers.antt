@@ -1,7 +1,7 @@
 use Rattle.std.proofs.Common.{◌≡◌, ◌∙◌, ◌+◌, ◌++◌, ◌∷◌, [], arith, drop, false, get_or, List, Bool, refl, sym, take, true}
 use Rattle.std.proofs.lemmas.List.{append_assoc, take_all, take_more}
 use Rattle.vid_geom.specs.Squares.{joined}
-use Rattle.thr_flags.specs.declared.runs.RunCode.TheVariants.{Short}
+use Rattle.thr_flags.specs.RunStrings.{Short}
 use Rattle.thr_flags.specs.Flags.{sizes_of}
 use Rattle.thr_flags.specs.WrittenFlags.{single_in, is_partial, parts}
 use Rattle.thr_flags.proofs.PartLemmas.{all_parts, single_next, single_same, single_split, small_superblocks}
@@ -60,3 +60,8 @@ pub returns-clause-reads_back : goal.returns-clause-reads_back
 returns-clause-reads_back c =
     let all = rw (all_parts c.args.geom.now c.args.flags.now c.superblocks.s (omega arith)) at c.superblocks.invariant.holds in
     on_ok c.close.result (λ back. back c.args.w.now (single_in (parts (sizes_of c.args.geom.now) c.args.flags.now)) all) c.close.ensures.reads_back
+
+pub returns-clause-few : goal.returns-clause-few
+returns-clause-few c =
+    let all = rw (all_parts c.args.geom.now c.args.flags.now c.superblocks.s (omega arith)) at c.superblocks.invariant.holds in
+    on_ok c.close.result (λ few. few c.args.w.now (single_in (parts (sizes_of c.args.geom.now) c.args.flags.now)) all) c.close.ensures.few
