@@ -1,5 +1,5 @@
 -- Checks: counting key frames, and the cause of each refusal. The command `check` cites these.
-use Rattle.std.proofs.Common.{◌≡◌, ℕ, ◌+◌, ◌-◌, ◌<◌, ◌≤◌, List, [], ◌∷◌, length, take, drop, get_or, Bool, true, false, Some, Err, refl, ap, ◌∙◌, arith, if◌then◌else◌}
+use Rattle.std.proofs.Common.{◌≡◌, ℕ, ◌+◌, ◌-◌, ◌<◌, ◌≤◌, List, [], ◌∷◌, length, take, drop, get_or, Bool, true, false, Some, Err, refl, ap, inl, ◌∙◌, arith, if◌then◌else◌}
 use Rattle.std.specs.List.{filter}
 use mir.Val.{bool_byte}
 use Rattle.std.proofs.lemmas.List.{take_more, length-append, length-drop, get_or-drop}
@@ -9,9 +9,12 @@ use Rattle.ogg_page.specs.Granule.{is_key}
 use Rattle.src_index.specs.declared.fault.SourceFault.{SourceFault}
 use Rattle.src_index.specs.declared.fault.SourceFault.TheVariants.{Bad, Page, Link, TooLong, ReadFault, Changed, NoMem}
 use Rattle.src_index.specs.declared.fault.Fault.TheVariants.{InPacket, InPage, InLink}
-use Rattle.src_index.specs.Loading.{Answers}
-use Rattle.cut_slice.specs.Cause.{contents}
-use Rattle.cut_app.specs.Causes.{CheckCaused, refusal_status}
+use Rattle.src_index.specs.declared.fault.Fault.{Fault}
+use Rattle.src_index.specs.Loading.{Answers, IsJudged}
+use Rattle.std.proofs.lemmas.List.Elements.{All-cons, All-nil}
+use Rattle.cut_desk.specs.Inputs.{contents, IsThere, IsWithin}
+use Rattle.cut_desk.proofs.InputLemmas.{there_of}
+use Rattle.cut_app.specs.Causes.{CheckCaused, IsBad, refusal_status, source_input, what_of}
 
 -- how many key frames there are among the first n frames of the packets
 abbrev pub keys_among : ℕ → List (List ℕ) → ℕ
@@ -33,12 +36,16 @@ keys_more packets n h =
       | false ↦ refl
     ]
 
+-- the first fault that judging finds in a file
+bad_caused : (files : List File) (file bytes : List ℕ) (fault : Fault) → contents files file ≡ Some bytes → IsJudged bytes (Err fault) → IsBad files (file ∷ []) 1 (what_of fault)
+bad_caused files file bytes fault there judged = (All-cons (λ name. IsWithin files (source_input name)) file [] (bytes, there, judged.0) (All-nil (λ name. IsWithin files (source_input name))), inl (refl, (fault, refl, record { bytes = bytes; there = there; judged = judged })))
+
 -- a file that gives no source has the status of its fault
 pub refused_caused : (files : List File) (file bytes : List ℕ) (fault : SourceFault) → contents files file ≡ Some bytes → Answers (Err fault) bytes → CheckCaused file files (refusal_status fault)
-refused_caused files file bytes (Bad link packet fault) there judged = (refl, InPacket link packet fault, refl, record { bytes = bytes; there = there; judged = judged })
-refused_caused files file bytes (Page at fault) there judged = (refl, InPage at fault, refl, record { bytes = bytes; there = there; judged = judged })
-refused_caused files file bytes (Link at fault) there judged = (refl, InLink at fault, refl, record { bytes = bytes; there = there; judged = judged })
-refused_caused files file bytes (TooLong size) there judged = (refl, (bytes, there, judged.0, judged.1))
+refused_caused files file bytes (Bad link packet fault) there judged = bad_caused files file bytes (InPacket link packet fault) there judged
+refused_caused files file bytes (Page at fault) there judged = bad_caused files file bytes (InPage at fault) there judged
+refused_caused files file bytes (Link at fault) there judged = bad_caused files file bytes (InLink at fault) there judged
+refused_caused files file bytes (TooLong size) there judged = (All-cons (λ limited. IsThere files limited.name) (source_input file) [] (there_of files file bytes there) (All-nil (λ limited. IsThere files limited.name)), inl (refl, (bytes, there, judged.0, judged.1)))
 refused_caused files file bytes ReadFault there judged = tt
 refused_caused files file bytes Changed there judged = tt
 refused_caused files file bytes NoMem there judged = tt

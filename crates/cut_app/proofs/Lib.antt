@@ -1,3 +1,3 @@
+mod CauseLemmas
 mod CheckLemmas
-mod CompleteLemmas
 mod SayingLemmas

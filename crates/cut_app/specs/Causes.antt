@@ -1,13 +1,15 @@
 -- When each status comes, over inputs that are told (own).
-use Rattle.std.specs.Prelude.{◌≡◌, ⊤, ℕ, ◌<◌, List, length, Option, Some, None, Ok, Err, ◌⊎◌}
-use Rattle.vid_desk.specs.Meaning.{File, place_of}
+use Rattle.std.specs.Prelude.{◌≡◌, ⊤, ℕ, List, [], ◌∷◌, Option, Some, None, Ok, Err, ◌⊎◌, All}
+use Rattle.vid_desk.specs.Meaning.{File}
 use Rattle.src_index.specs.declared.fault.Fault.{Fault}
 use Rattle.src_index.specs.declared.fault.Fault.TheVariants.{InPacket, InPage, InLink}
 use Rattle.src_index.specs.declared.fault.SourceFault.{SourceFault}
 use Rattle.src_index.specs.declared.fault.SourceFault.TheVariants.{Bad, Page as PageFault, Link as LinkFault, TooLong as LongFile, ReadFault as ReadFailed, Changed, NoMem as NoMemory}
 use Rattle.src_index.specs.Track.{Track}
 use Rattle.src_index.specs.Loading.{longest}
-use Rattle.cut_slice.specs.Cause.{contents, Caused}
+use Rattle.cut_desk.specs.Inputs.{First, IsMissing, IsTooLong, IsWithin, Limited}
+use Rattle.cut_desk.specs.Statuses.{IsOutside}
+use Rattle.cut_slice.specs.Cause.{Caused}
 use Rattle.cut_report.specs.declared.status.SourceWhat.{SourceWhat}
 use Rattle.cut_report.specs.declared.status.SourceWhat.TheVariants.{Packet, Page, Link}
 use Rattle.cut_report.specs.declared.status.Status.{Status}
@@ -36,16 +38,29 @@ refusal_status NoMemory = NoMem
 refusal_status ReadFailed = ReadFault
 refusal_status Changed = ReadFault
 
--- the file of that name is there, and has so many bytes, which are too many
-abbrev pub IsOverlong : List File → List ℕ → ℕ → Type 0
-IsOverlong files name size = (bytes : List ℕ) × (contents files name ≡ Some bytes) × (size ≡ length bytes) × (longest < length bytes)
+-- an input that is a source, and how many bytes it may have
+abbrev pub source_input : List ℕ → Limited
+source_input name = record { name = name; most = longest }
+
+-- judging finds no fault in that source
+abbrev pub IsSound : List File → List ℕ → Type 0
+IsSound files name = (track : Track) × IsFound files name (Ok track.packets)
+
+-- judging finds this fault in that source
+abbrev pub HasFault : List File → SourceWhat → List ℕ → Type 0
+HasFault files what name = (fault : Fault) × (what ≡ what_of fault) × IsFound files name (Err fault)
+
+-- none of these sources is too long, and the first of them, counted from 1 in the order of the words, in which judging finds
+-- a fault has this one
+abbrev pub IsBad : List File → List (List ℕ) → ℕ → SourceWhat → Type 0
+IsBad files sources source what = All (λ name. IsWithin files (source_input name)) sources × First (IsSound files) (HasFault files what) 1 sources source
 
 -- the cause of each status of a check; want of memory has none, and a desk's counts show the faults of reading and writing
 abbrev pub CheckCaused : List ℕ → List File → Status → Type 0
-CheckCaused file files Done = (track : Track) × IsFound files file (Ok track.packets)
-CheckCaused file files (NoFile input) = (input ≡ first_file) × (place_of files file ≡ None)
-CheckCaused file files (BadSource source what) = (source ≡ first_file) × (fault : Fault) × (what ≡ what_of fault) × IsFound files file (Err fault)
-CheckCaused file files (TooLong input size) = (input ≡ first_file) × IsOverlong files file size
+CheckCaused file files Done = IsSound files file
+CheckCaused file files (NoFile input) = IsMissing files (file ∷ []) input
+CheckCaused file files (BadSource source what) = IsBad files (file ∷ []) source what
+CheckCaused file files (TooLong input size) = IsTooLong files (source_input file ∷ []) input size
 CheckCaused file files ReadFault = ⊤
 CheckCaused file files WriteFault = ⊤
 CheckCaused file files NoMem = ⊤
@@ -60,7 +75,11 @@ IsChecking (BadSource source what) = ⊤
 IsChecking (TooLong input size) = ⊤
 IsChecking ReadFault = ⊤
 IsChecking NoMem = ⊤
-IsChecking status = ⊥
+IsChecking Done = ⊥
+IsChecking Usage = ⊥
+IsChecking WriteFault = ⊥
+IsChecking InPointNotKey = ⊥
+IsChecking NotYet = ⊥
 
 -- the cause of each status of a command
 abbrev pub FormCaused : Form → List File → Status → Type 0
@@ -71,3 +90,7 @@ FormCaused (Cutting cut) files status = Caused cut files status
 abbrev pub CausedBy : Option Form → List File → Status → Type 0
 CausedBy None files status = (status ≡ Usage) ⊎ (status ≡ NoMem)
 CausedBy (Some form) files status = FormCaused form files status
+
+-- no other status has a cause, but for those that no input is the cause of
+abbrev pub IsOnly : Option Form → List File → Status → Type 0
+IsOnly form files status = (other : Status) → CausedBy form files other → IsOutside status ⊎ (IsOutside other ⊎ (status ≡ other))

@@ -1,18 +1,15 @@
 -- What a command leaves, by the form of its words (own).
-use Rattle.std.specs.Prelude.{◌≡◌, ⊤, true, List, [], Option, Some, None, Ok, ◌⊎◌}
+use Rattle.std.specs.Prelude.{◌≡◌, ⊤, List, [], Option, Some, None, ◌⊎◌}
 use Rattle.vid_desk.specs.Meaning.{File, Meaning}
-use Rattle.ogg_page.specs.Granule.{is_key}
-use Rattle.src_index.specs.Track.{Track}
-use Rattle.cut_slice.specs.SliceList.{Slice}
-use Rattle.cut_slice.specs.Plain.{Packets}
-use Rattle.cut_slice.specs.Output.{MakesAtMost, LeavesOutputs}
-use Rattle.cut_slice.specs.Cause.{IsReady, IsCalm, in_point, Written}
+use Rattle.cut_desk.specs.Outputs.{IsCalm, LeavesOutputs, MakesAtMost}
+use Rattle.cut_slice.specs.Cause.{IsGivenAll as CanCut, Written}
 use Rattle.cut_report.specs.declared.status.Status.{Status}
-use Rattle.cut_report.specs.declared.status.Status.TheVariants.{Done, NoMem, Usage}
+use Rattle.cut_report.specs.declared.status.Status.TheVariants.{Done, Usage, NoFile, BadSource, ReadFault, WriteFault, NoMem, TooLong, InPointNotKey, NotYet}
 use Rattle.cut_report.specs.Lines.{fault_text}
 use Rattle.cut_app.specs.Forms.{Form}
 use Rattle.cut_app.specs.Forms.Form.{Checking, Cutting}
-use Rattle.cut_app.specs.Texts.{IsFound, SaysOn, SaysLine, HasSaid}
+use Rattle.cut_app.specs.Causes.{IsSound}
+use Rattle.cut_app.specs.Texts.{SaysOn, SaysLine, HasSaid}
 
 -- what a command that was done has written: a check writes nothing, and a cut the pages of its slice
 abbrev pub WrittenBy : Meaning → Meaning → Option Form → List File → Type 0
@@ -23,8 +20,14 @@ WrittenBy old new (Some (Cutting cut)) files = Written old new cut files
 -- what a command needs: a check, a file in which judging finds no fault; a cut, a list and a source that are ready, and a
 -- key frame at the in-point
 abbrev pub IsGivenAll : Form → List File → Type 0
-IsGivenAll (Checking file) files = (track : Track) × IsFound files file (Ok track.packets)
-IsGivenAll (Cutting cut) files = (slice : Slice) × (packets : Packets) × IsReady cut files slice packets × (is_key (in_point slice packets) ≡ true)
+IsGivenAll (Checking file) files = IsSound files file
+IsGivenAll (Cutting cut) files = CanCut cut files
+
+-- nothing was asked of the outputs but where all was given, and then by a cut alone
+abbrev pub CreatesWhenGiven : Meaning → Meaning → Option Form → List File → Type 0
+CreatesWhenGiven old new None files = LeavesOutputs old new
+CreatesWhenGiven old new (Some (Checking file)) files = LeavesOutputs old new
+CreatesWhenGiven old new (Some (Cutting cut)) files = LeavesOutputs old new ⊎ CanCut cut files
 
 -- where all is given and no fault was counted, the command is done or no memory was found
 abbrev pub Completes : Meaning → Meaning → Option Form → List File → Status → Type 0
@@ -40,7 +43,15 @@ MakesOnly old new (Some (Cutting cut)) = MakesAtMost old new cut.out
 -- what was said on a status
 abbrev pub SaysBy : Option Form → Meaning → Meaning → Status → Type 0
 SaysBy None old new Usage = SaysLine old new (fault_text Usage)
-SaysBy None old new status = HasSaid old new []
+SaysBy None old new Done = HasSaid old new []
+SaysBy None old new (NoFile input) = HasSaid old new []
+SaysBy None old new (BadSource source what) = HasSaid old new []
+SaysBy None old new ReadFault = HasSaid old new []
+SaysBy None old new WriteFault = HasSaid old new []
+SaysBy None old new NoMem = HasSaid old new []
+SaysBy None old new (TooLong input bytes) = HasSaid old new []
+SaysBy None old new InPointNotKey = HasSaid old new []
+SaysBy None old new NotYet = HasSaid old new []
 SaysBy (Some form) old new status = SaysOn form old new status
 
 -- a line was said of a status, which stays; but where no memory was found to say it, nothing was said

@@ -1,5 +1,5 @@
 -- What a command says (own).
-use Rattle.std.specs.Prelude.{◌≡◌, ℕ, List, [], ◌++◌, length, filter, drop, Some, Ok, ◌⊎◌}
+use Rattle.std.specs.Prelude.{◌≡◌, ℕ, List, [], ◌++◌, length, filter, drop, Option, Some, Ok, ◌⊎◌}
 use Rattle.std.specs.Option.{option_map}
 use Rattle.vid_desk.specs.Meaning.{File, Meaning, ToldFiles, Rose}
 use Rattle.ogg_page.specs.Granule.{is_key}
@@ -8,10 +8,10 @@ use Rattle.thr_ident.specs.Ident.{ident_of, header_of}
 use Rattle.src_index.specs.Track.{Track, packet_at, frame_count, headers}
 use Rattle.src_index.specs.Judge.{Verdict}
 use Rattle.src_index.specs.Loading.{IsJudged}
-use Rattle.cut_slice.specs.Cause.{contents}
+use Rattle.cut_desk.specs.Inputs.{contents}
 use Rattle.cut_report.specs.Lines.{fault_text, link_text}
 use Rattle.cut_report.specs.declared.status.Status.{Status}
-use Rattle.cut_report.specs.declared.status.Status.TheVariants.{Done, WriteFault, NoMem}
+use Rattle.cut_report.specs.declared.status.Status.TheVariants.{Done, Usage, NoFile, BadSource, ReadFault, WriteFault, NoMem, TooLong, InPointNotKey, NotYet}
 use Rattle.cut_app.specs.Forms.{Form}
 use Rattle.cut_app.specs.Forms.Form.{Checking, Cutting}
 
@@ -37,10 +37,10 @@ pub record IsCheckText (files : List File) (file text : List ℕ) : Type 0 where
   pub found : IsFound files file (Ok track.packets)
   pub line : IsTrackText track text
 
--- the text of a command that was done; a cut says nothing
-abbrev pub IsTextOf : Form → List File → List ℕ → Type 0
-IsTextOf (Checking file) files text = IsCheckText files file text
-IsTextOf (Cutting cut) files text = text ≡ []
+-- the text of a command that was done, by its inputs and by the outputs that it left, where these are told; a cut says nothing
+abbrev pub IsTextOf : Form → List File → Option (List File) → List ℕ → Type 0
+IsTextOf (Checking file) files outputs text = IsCheckText files file text
+IsTextOf (Cutting cut) files outputs text = text ≡ []
 
 -- this text was said
 abbrev pub HasSaid : Meaning → Meaning → List ℕ → Type 0
@@ -50,14 +50,22 @@ HasSaid old new came = new.said ≡ option_map (λ text. text ++ came) old.said
 abbrev pub SaysLine : Meaning → Meaning → List ℕ → Type 0
 SaysLine old new line = HasSaid old new line ⊎ ((came : List ℕ) × (rest : List ℕ) × (line ≡ came ++ rest) × HasSaid old new came × Rose old.write_faults new.write_faults)
 
--- this is a first part of the text of the command, where it was done
-abbrev pub IsFirstPart : Meaning → Form → List ℕ → Type 0
-IsFirstPart m form first = (first ≡ []) ⊎ ToldFiles m (λ files. (rest : List ℕ) × IsTextOf form files (first ++ rest))
+-- this is a first part of the text of the command, where it was done and left these outputs
+abbrev pub IsFirstPart : Meaning → Option (List File) → Form → List ℕ → Type 0
+IsFirstPart m outputs form first = (first ≡ []) ⊎ ToldFiles m (λ files. (rest : List ℕ) × IsTextOf form files outputs (first ++ rest))
 
 -- a command was refused: it said nothing, but where writing failed a first part of its text
 abbrev pub StopsAt : Form → Meaning → Meaning → Status → Type 0
-StopsAt form old new WriteFault = (first : List ℕ) × HasSaid old new first × IsFirstPart old form first
-StopsAt form old new status = new.said ≡ old.said
+StopsAt form old new WriteFault = (first : List ℕ) × HasSaid old new first × IsFirstPart old new.outputs form first
+StopsAt form old new Done = new.said ≡ old.said
+StopsAt form old new Usage = new.said ≡ old.said
+StopsAt form old new (NoFile input) = new.said ≡ old.said
+StopsAt form old new (BadSource source what) = new.said ≡ old.said
+StopsAt form old new ReadFault = new.said ≡ old.said
+StopsAt form old new NoMem = new.said ≡ old.said
+StopsAt form old new (TooLong input bytes) = new.said ≡ old.said
+StopsAt form old new InPointNotKey = new.said ≡ old.said
+StopsAt form old new NotYet = new.said ≡ old.said
 
 -- a command broke off: it said a first part of its text, and then a first part of a line
 pub record BreaksOff (old new : Meaning) (form : Form) (line : List ℕ) : Type 0 where
@@ -66,11 +74,17 @@ pub record BreaksOff (old new : Meaning) (form : Form) (line : List ℕ) : Type 
   pub rest : List ℕ
   pub line_is : line ≡ came ++ rest
   pub said : HasSaid old new (first ++ came)
-  pub part : IsFirstPart old form first
+  pub part : IsFirstPart old new.outputs form first
 
 -- what was said, by the status: the text of a command that was done, or else the line of the status
 abbrev pub SaysOn : Form → Meaning → Meaning → Status → Type 0
-SaysOn form old new Done = ToldFiles old (λ files. (text : List ℕ) × IsTextOf form files text × HasSaid old new text)
+SaysOn form old new Done = ToldFiles old (λ files. (text : List ℕ) × IsTextOf form files new.outputs text × HasSaid old new text)
 SaysOn form old new WriteFault = BreaksOff old new form (fault_text WriteFault)
 SaysOn form old new NoMem = BreaksOff old new form (fault_text NoMem)
-SaysOn form old new status = SaysLine old new (fault_text status)
+SaysOn form old new Usage = SaysLine old new (fault_text Usage)
+SaysOn form old new (NoFile input) = SaysLine old new (fault_text (NoFile input))
+SaysOn form old new (BadSource source what) = SaysLine old new (fault_text (BadSource source what))
+SaysOn form old new ReadFault = SaysLine old new (fault_text ReadFault)
+SaysOn form old new (TooLong input bytes) = SaysLine old new (fault_text (TooLong input bytes))
+SaysOn form old new InPointNotKey = SaysLine old new (fault_text InPointNotKey)
+SaysOn form old new NotYet = SaysLine old new (fault_text NotYet)

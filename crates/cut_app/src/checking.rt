@@ -1,15 +1,15 @@
 // The command `check FILE`: it judges a file and says what it holds (own).
 ghost use Rattle.std.specs.Prelude.{◌≡◌, ◌≢◌, ◌≤◌, ◌∷◌, [], List, ℕ, Ok, IfOk, IfErr, OnOk, IsErrOf};
 ghost use Rattle.vid_desk.specs.Meaning.{ToldFiles, Rose};
-ghost use Rattle.cut_slice.specs.Cause.{status_in};
-ghost use Rattle.cut_slice.specs.Output.{Looks, Seeks};
+ghost use Rattle.cut_desk.specs.Outputs.{Looks, Seeks};
+ghost use Rattle.cut_desk.specs.Statuses.{status_in};
 ghost use Rattle.cut_app.specs.Forms.Form.{Checking};
 ghost use Rattle.cut_app.specs.Texts.{key_count as key_count_of, HasSaid, IsCheckText, IsFound, IsTrackText, StopsAt};
 ghost use Rattle.cut_app.specs.Causes.{refusal_status, CheckCaused, IsChecking};
 ghost use Rattle.cut_app.specs.Commands.{ReadsAndSays};
 
+use cut_desk::{reading, writing};
 use cut_report::{SourceWhat, Status, link_line};
-use cut_slice::{reading, writing};
 use src_index::{Source, SourceFault};
 use std::alloc::Global;
 use vid_base::NoMem;

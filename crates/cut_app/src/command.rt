@@ -1,13 +1,13 @@
 // The top call: a command line over a desk (own).
 ghost use Rattle.std.specs.Prelude.{◌≡◌, ◌≤◌, ◌⊎◌, List, ℕ, Some, None, map, IfErr, OnOk, IsErrOf};
 ghost use Rattle.vid_desk.specs.Meaning.{ToldFiles, Rose};
-ghost use Rattle.cut_slice.specs.Cause.{status_in};
-ghost use Rattle.cut_slice.specs.Output.{LeavesOutputsAt, Seeks};
+ghost use Rattle.cut_desk.specs.Outputs.{Seeks};
+ghost use Rattle.cut_desk.specs.Statuses.{LeavesOutputsAt, status_in};
 ghost use Rattle.cut_app.specs.Forms.{form_of, inputs_in, inputs_of};
 ghost use Rattle.cut_app.specs.Views.{form_view};
 ghost use Rattle.cut_app.specs.Texts.{HasSaid, IsTextOf, StopsAt};
-ghost use Rattle.cut_app.specs.Causes.{CausedBy, FormCaused};
-ghost use Rattle.cut_app.specs.Commands.{Completes, MakesOnly, SaysBy, Tells, WrittenBy};
+ghost use Rattle.cut_app.specs.Causes.{CausedBy, FormCaused, IsOnly};
+ghost use Rattle.cut_app.specs.Commands.{Completes, CreatesWhenGiven, MakesOnly, SaysBy, Tells, WrittenBy};
 
 use crate::checking::check;
 use crate::words::{Command, command_of};
@@ -34,10 +34,11 @@ fn run<D: Desk>(alloc: Global, desk: &mut D, command: Command) -> Result<(), Sta
     ensures caused { ToldFiles (D.sees desk.old) (λ files. FormCaused (form_view command.entry) files (status_in result)) }
     ensures written { OnOk result (ToldFiles (D.sees desk.old) (λ files. WrittenBy (D.sees desk.old) (D.sees desk.new) (Some (form_view command.entry)) files)) }
     ensures outputs { MakesOnly (D.sees desk.old) (D.sees desk.new) (Some (form_view command.entry)) }
+    ensures created { ToldFiles (D.sees desk.old) (λ files. CreatesWhenGiven (D.sees desk.old) (D.sees desk.new) (Some (form_view command.entry)) files) }
     ensures before { LeavesOutputsAt (status_in result) (D.sees desk.old) (D.sees desk.new) }
     ensures names { Seeks (D.sees desk.old).sought (D.sees desk.new).sought (inputs_in (form_view command.entry)) }
     ensures inputs { (D.sees desk.new).inputs ≡ (D.sees desk.old).inputs }
-    ensures said { OnOk result (ToldFiles (D.sees desk.old) (λ files. (text : List ℕ) × IsTextOf (form_view command.entry) files text × HasSaid (D.sees desk.old) (D.sees desk.new) text)) }
+    ensures said { OnOk result (ToldFiles (D.sees desk.old) (λ files. (text : List ℕ) × IsTextOf (form_view command.entry) files (D.sees desk.new).outputs text × HasSaid (D.sees desk.old) (D.sees desk.new) text)) }
     ensures stops { IfErr result (StopsAt (form_view command.entry) (D.sees desk.old) (D.sees desk.new)) }
     ensures count { (D.sees desk.old).write_faults ≤ (D.sees desk.new).write_faults }
     ensures read { IsErrOf result Status.ReadFault → Rose (D.sees desk.old).read_faults (D.sees desk.new).read_faults }
@@ -67,13 +68,16 @@ pub fn oggcut<D: Desk>(alloc: Global, words: &[&str], desk: &mut D) -> Status
     // The words alone decide whether they have a form.
     ensures usage { result ≡ Status.Usage → form_of (map (λ word. word.now) words.now) ≡ None }
     ensures formless { form_of (map (λ word. word.now) words.now) ≡ None → (result ≡ Status.Usage) ⊎ (result ≡ Status.NoMem) }
-    // Over inputs that are told, each status has its cause, so that each cause has its status.
+    // Over inputs that are told, each status has its cause, and no other status has one, so that each cause has its status.
     ensures caused { ToldFiles (D.sees desk.old) (λ files. CausedBy (form_of (map (λ word. word.now) words.now)) files result) }
+    ensures only { ToldFiles (D.sees desk.old) (λ files. IsOnly (form_of (map (λ word. word.now) words.now)) files result) }
     // The output of a cut that was done holds the pages of the source's headers and of the frames of the slice.
     ensures written { result ≡ Status.Done → ToldFiles (D.sees desk.old) (λ files. WrittenBy (D.sees desk.old) (D.sees desk.new) (form_of (map (λ word. word.now) words.now)) files) }
     // Where all is given and no count of faults rises, the command is done.
     ensures complete { ToldFiles (D.sees desk.old) (λ files. Completes (D.sees desk.old) (D.sees desk.new) (form_of (map (λ word. word.now) words.now)) files result) }
     ensures outputs { MakesOnly (D.sees desk.old) (D.sees desk.new) (form_of (map (λ word. word.now) words.now)) }
+    // Whatever the status, nothing is asked of the outputs before all that the command needs was found to be given.
+    ensures created { ToldFiles (D.sees desk.old) (λ files. CreatesWhenGiven (D.sees desk.old) (D.sees desk.new) (form_of (map (λ word. word.now) words.now)) files) }
     ensures before { LeavesOutputsAt result (D.sees desk.old) (D.sees desk.new) }
     ensures names { Seeks (D.sees desk.old).sought (D.sees desk.new).sought (inputs_of (form_of (map (λ word. word.now) words.now))) }
     ensures inputs { (D.sees desk.new).inputs ≡ (D.sees desk.old).inputs }

@@ -21,6 +21,15 @@ const COMMENT: [u8; 21] = [
 
 const KEY: [u8; 5] = [0x1e, 0x00, 0x01, 0xc0, 0x00];
 
+// The first 33 bits of the trees of the setup header, each where it is 1.
+const A_TREE_OF_33_ZEROS: [(u8, usize, u8); 5] = [
+    (2, 259, 1),
+    (2, 260, 4),
+    (2, 261, 40),
+    (2, 262, 163),
+    (2, 263, 32),
+];
+
 // The lacing values of the comment header and of a setup header of 2,490 bytes.
 const HEADER_LACING: [u8; 11] = [21, 255, 255, 255, 255, 255, 255, 255, 255, 255, 195];
 
@@ -152,7 +161,7 @@ fn a_file_of_one_frame_has_its_line(rt: HostRuntime) {
 
 #[test]
 fn each_fault_of_a_packet_is_said_with_its_number(rt: HostRuntime) {
-    let headers: [(&[(u8, usize, u8)], &str); 11] = [
+    let headers: [(&[(u8, usize, u8)], &str); 15] = [
         (&[(0, 7, 7)], "packet 0 Version"),
         (&[(0, 11, 1)], "packet 0 BadSize"),
         (&[(0, 10, 255), (0, 12, 255)], "packet 0 TooLarge"),
@@ -164,6 +173,10 @@ fn each_fault_of_a_packet_is_said_with_its_number(rt: HostRuntime) {
         (&[(2, 0, 1)], "packet 2 NotSetup"),
         (&[(2, 192, 0x18)], "packet 2 Matrices"),
         (&[(2, 258, 0x40)], "packet 2 Ramp"),
+        (&[(2, 192, 2)], "packet 2 MatrixIndex"),
+        (&[(2, 259, 0x20)], "packet 2 TreeLeaves"),
+        (&A_TREE_OF_33_ZEROS, "packet 2 TreeDeep"),
+        (&[(2, 7, 0x80)], "packet 2 Ended"),
     ];
     for (changes, line) in headers {
         refused(&rt, &Case { changes, ..WHOLE }, "link 1 ", line);
@@ -294,6 +307,38 @@ fn a_call_that_fails_is_told(rt: HostRuntime) {
         desk.said().is_empty(),
         "the line of a refusal fails, and the status stays"
     );
+}
+
+#[test]
+fn a_read_that_fails_in_mid_file_is_told(rt: HostRuntime) {
+    // A frame of 65,000 bytes, so that the file is read in two pieces: a find, a size, two reads and the line.
+    let mut file = headers(&rt, &[], 0);
+    let mut lacing = [255u8; 255];
+    lacing[254] = 230;
+    let Ok(frame) = Vec::from_elem(rt.alloc(), KEY[0], 65_000) else {
+        panic!(&rt; "there is no frame")
+    };
+    add(&rt, &mut file, 4, 2, 64, &lacing, &frame);
+    for (call, status, line) in [
+        (2, 8, "fault 8 read\n"),
+        (3, 8, "fault 8 read\n"),
+        (4, 9, "fault 9 write\n"),
+        (5, 0, WHOLE.line),
+    ] {
+        let mut desk = MemDesk::new(rt.alloc());
+        assert!(rt; desk.add_input("S", &file).is_ok());
+        assert!(rt; desk.fail_at(call).is_ok());
+        let end = oggcut(rt.alloc(), &["check", "S"], &mut desk);
+        assert_eq!(rt; end.number(), status, "{call}");
+        assert!(rt; desk.said() == line.as_bytes(), "{call}");
+    }
+}
+
+#[test]
+fn an_identification_header_that_ends_early_is_said(rt: HostRuntime) {
+    let mut file = Vec::new(rt.alloc());
+    add(&rt, &mut file, 2, 0, 0, &[41], &IDENT[..41]);
+    said(&rt, &file, "link 1 ", "packet 0 Ended");
 }
 
 // A desk with one input and one output, of which nothing is told but the length of the input. No call gives bytes.

@@ -1,8 +1,8 @@
 -- Inputs without bytes, and inputs by their names. The command cites these.
-use Rattle.std.proofs.Common.{◌≡◌, ℕ, ◌<◌, ◌≤◌, zero, suc, List, [], ◌∷◌, length, map, get_or, Bool, true, false, inl, inr, ◌⊎◌, Some, None, refl, ap, sym, ◌∙◌, arith}
-use Rattle.std.specs.Option.{option_map, option_map_or}
+use Rattle.std.proofs.Common.{◌≡◌, ℕ, ◌<◌, ◌≤◌, zero, suc, List, [], ◌∷◌, length, map, get_or, Bool, false, inl, inr, ◌⊎◌, Some, None, refl, ap, sym, ◌∙◌, arith}
+use Rattle.std.specs.Option.{option_map_or}
 use Rattle.std.specs.Prelude.{slice_get}
-use Rattle.vid_desk.specs.Meaning.{File, Meaning, place_of, bytes_at, Rose}
+use Rattle.vid_desk.specs.Meaning.{File, Meaning}
 use Rattle.ogg_page.specs.Page.{Page, ArePages}
 use Rattle.ogg_page.proofs.PageLemmas.{page_is}
 use Rattle.ogg_page.proofs.PagesLemmas.{ArePages-unique}
@@ -10,8 +10,10 @@ use Rattle.cut_slice.specs.SliceList.{Slice, slice_of, behind}
 use Rattle.cut_slice.specs.Plain.{Packets, IsPlain, NotPlain, plain_of}
 use Rattle.ogg_page.specs.Granule.{is_key}
 use Rattle.cut_slice.specs.Words.{Cut, clashes}
-use Rattle.cut_slice.specs.Cause.{contents, in_point, IsReady, GivesBoth, RefusesBoth, RefusesSource, IsReading, IsCutting, NotCovered, IsCalm, Caused}
-use Rattle.cut_slice.specs.Output.{Makes, Looks}
+use Rattle.cut_desk.specs.Inputs.{contents, IsMissing}
+use Rattle.cut_desk.specs.Outputs.{LeavesOutputs, Looks}
+use Rattle.cut_desk.proofs.InputLemmas.{not_absent}
+use Rattle.cut_slice.specs.Cause.{in_point, CanBeCut, Caused, CreatesWhenGiven, GivesBoth, IsGiven, IsReady, NotCovered, RefusesBoth, RefusesSource}
 use Rattle.cut_report.specs.declared.status.Status.{Status}
 use Rattle.cut_report.specs.declared.status.Status.TheVariants.{Done, Usage, NoFile, BadSource, ReadFault, WriteFault, NoMem, TooLong, InPointNotKey, NotYet}
 
@@ -32,10 +34,6 @@ empty_not_plain bytes h packets plain = let fill = rw (no_bytes bytes h) at plai
 pub empty_no_slice : (bytes : List ℕ) → length bytes ≡ 0 → slice_of bytes ≡ None
 unfolding slice_of behind
 empty_no_slice bytes h = rw (no_bytes bytes h) refl
-
--- the bytes of the input that was found
-pub contents_is : (files : List File) (name : List ℕ) (id : ℕ) (bytes : List ℕ) → place_of files name ≡ Some id → bytes ≡ bytes_at files id → contents files name ≡ Some bytes
-contents_is files name id bytes place e = ap (option_map (λ i. bytes_at files i)) place ∙ ap (λ b. Some b) (sym e)
 
 -- nor is one that is too long
 pub long_not_plain : (bytes : List ℕ) → 268435456 < length bytes → NotPlain bytes
@@ -64,18 +62,29 @@ ready_of cut files slice packets bytes apart both plain range = record {
   range = record { list_is = both.slice_is; plain = plain; range = range };
 }
 
+-- outputs that were left since the inputs were read are left, and a source that can be cut is all that was wanted
+pub created_since : (old mid new : Meaning) (cut : Cut) (files : List File) (slice : Slice) (bytes : List ℕ) → clashes cut ≡ false → GivesBoth files cut.list cut.source slice bytes → Looks old mid
+    → LeavesOutputs mid new ⊎ CanBeCut slice bytes → CreatesWhenGiven old new cut files
+created_since old mid new cut files slice bytes apart both looks created = elim created [
+  | inl left ↦
+      let outputs : mid.outputs ≡ old.outputs = ap {A = Meaning} (λ m. m.outputs) looks in
+      let named : mid.named ≡ old.named = ap {A = Meaning} (λ m. m.named) looks in
+      inl (left.0 ∙ outputs, left.1 ∙ named)
+  | inr can ↦ inr (slice, can.0, ready_of cut files slice can.0 bytes apart both can.1 can.2, can.3)
+]
+
 -- a refusal of the source is one of the cut
-pub caused_by_source : (cut : Cut) (files : List File) (slice : Slice) (bytes : List ℕ) (status : Status) → clashes cut ≡ false → GivesBoth files cut.list cut.source slice bytes → RefusesSource slice bytes status → IsCutting status → Caused cut files status
-caused_by_source cut files slice bytes Done apart both refused is = absurd is
-caused_by_source cut files slice bytes Usage apart both refused is = absurd is
-caused_by_source cut files slice bytes (NoFile input) apart both refused is = absurd is
-caused_by_source cut files slice bytes (BadSource source what) apart both refused is = absurd is
-caused_by_source cut files slice bytes (TooLong input size) apart both refused is = absurd is
-caused_by_source cut files slice bytes ReadFault apart both refused is = tt
-caused_by_source cut files slice bytes WriteFault apart both refused is = tt
-caused_by_source cut files slice bytes NoMem apart both refused is = tt
-caused_by_source cut files slice bytes InPointNotKey apart both refused is = (slice, refused.0, ready_of cut files slice refused.0 bytes apart both refused.1 refused.2, refused.3)
-caused_by_source cut files slice bytes NotYet apart both refused is =
+pub caused_by_source : (cut : Cut) (files : List File) (slice : Slice) (bytes : List ℕ) (status : Status) → clashes cut ≡ false → GivesBoth files cut.list cut.source slice bytes → RefusesSource slice bytes status → Caused cut files status
+caused_by_source cut files slice bytes Done apart both refused = absurd refused
+caused_by_source cut files slice bytes Usage apart both refused = absurd refused
+caused_by_source cut files slice bytes (NoFile input) apart both refused = absurd refused
+caused_by_source cut files slice bytes (BadSource source what) apart both refused = absurd refused
+caused_by_source cut files slice bytes (TooLong input size) apart both refused = absurd refused
+caused_by_source cut files slice bytes ReadFault apart both refused = absurd refused
+caused_by_source cut files slice bytes WriteFault apart both refused = tt
+caused_by_source cut files slice bytes NoMem apart both refused = tt
+caused_by_source cut files slice bytes InPointNotKey apart both refused = (slice, refused.0, ready_of cut files slice refused.0 bytes apart both refused.1 refused.2, refused.3)
+caused_by_source cut files slice bytes NotYet apart both refused =
     inr (
       both.text,
       bytes,
@@ -87,17 +96,17 @@ caused_by_source cut files slice bytes NotYet apart both refused is =
     )
 
 -- a refusal of reading is one of the cut
-pub caused_by_reading : (cut : Cut) (files : List File) (status : Status) → clashes cut ≡ false → RefusesBoth files cut.list cut.source status → IsReading status → Caused cut files status
-caused_by_reading cut files Done apart refused is = absurd is
-caused_by_reading cut files Usage apart refused is = absurd is
-caused_by_reading cut files (NoFile input) apart refused is = (apart, refused)
-caused_by_reading cut files (BadSource source what) apart refused is = absurd is
-caused_by_reading cut files (TooLong input size) apart refused is = absurd is
-caused_by_reading cut files ReadFault apart refused is = tt
-caused_by_reading cut files WriteFault apart refused is = tt
-caused_by_reading cut files NoMem apart refused is = tt
-caused_by_reading cut files InPointNotKey apart refused is = absurd is
-caused_by_reading cut files NotYet apart refused is =
+pub caused_by_reading : (cut : Cut) (files : List File) (status : Status) → clashes cut ≡ false → RefusesBoth files cut.list cut.source status → Caused cut files status
+caused_by_reading cut files Done apart refused = absurd refused
+caused_by_reading cut files Usage apart refused = absurd refused
+caused_by_reading cut files (NoFile input) apart refused = (apart, refused)
+caused_by_reading cut files (BadSource source what) apart refused = absurd refused
+caused_by_reading cut files (TooLong input size) apart refused = absurd refused
+caused_by_reading cut files ReadFault apart refused = tt
+caused_by_reading cut files WriteFault apart refused = absurd refused
+caused_by_reading cut files NoMem apart refused = tt
+caused_by_reading cut files InPointNotKey apart refused = absurd refused
+caused_by_reading cut files NotYet apart refused =
     inr (
       refused.0,
       refused.1,
@@ -128,7 +137,7 @@ not_past cut files slice other packets more text bytes ready list_is source_is s
     let both : Some slice ≡ Some other = sym (ready_list cut files slice packets text ready list_is) ∙ slice_is in
     (cc, plain_unique bytes packets more (ready_source cut files slice packets bytes ready source_is) plain)
 
-not_covered : (cut : Cut) (files : List File) (slice : Slice) (packets : Packets) (text bytes : List ℕ) → IsReady cut files slice packets → contents files cut.list ≡ Some text → contents files cut.source ≡ Some bytes → NotCovered text bytes → ⊥
+pub not_covered : (cut : Cut) (files : List File) (slice : Slice) (packets : Packets) (text bytes : List ℕ) → IsReady cut files slice packets → contents files cut.list ≡ Some text → contents files cut.source ≡ Some bytes → NotCovered text bytes → ⊥
 not_covered cut files slice packets text bytes ready list_is source_is refused = elim refused [
   | inl other ↦ let some : slice_of text ≡ Some slice = ready_list cut files slice packets text ready list_is in cc
   | inr more ↦ elim more [
@@ -139,36 +148,16 @@ not_covered cut files slice packets text bytes ready list_is source_is refused =
   ]
 ]
 
-pub missing_place : (files : List File) (name bytes : List ℕ) → contents files name ≡ Some bytes → place_of files name ≡ None → ⊥
-missing_place files name bytes there none = let nothing : contents files name ≡ None = ap (option_map (λ id. bytes_at files id)) none in cc
-
--- ready inputs and no fault leave no status but done, and want of memory
-pub completes : (old new : Meaning) (cut : Cut) (files : List File) (status : Status) → Caused cut files status
-    → (status ≡ ReadFault → Rose old.read_faults new.read_faults) → (status ≡ WriteFault → Rose old.write_faults new.write_faults)
-    → (slice : Slice) (packets : Packets) → IsReady cut files slice packets → is_key (in_point slice packets) ≡ true → IsCalm old new → (status ≡ Done) ⊎ (status ≡ NoMem)
-completes old new cut files Done cause read write slice packets ready key calm = inl refl
-completes old new cut files NoMem cause read write slice packets ready key calm = inr refl
-completes old new cut files (BadSource source what) cause read write slice packets ready key calm = absurd cause
-completes old new cut files (TooLong input size) cause read write slice packets ready key calm = absurd cause
-completes old new cut files Usage cause read write slice packets ready key calm = absurd cause
-completes old new cut files ReadFault cause read write slice packets ready key calm = absurd (calm.0 (read refl))
-completes old new cut files WriteFault cause read write slice packets ready key calm = absurd (calm.1 (write refl))
-completes old new cut files InPointNotKey cause read write slice packets ready key calm =
-    let same = not_past cut files slice cause.0 packets cause.1 cause.2.list cause.2.source ready cause.2.given.list_is cause.2.given.source_is cause.2.range.list_is cause.2.range.plain in
-    let other : is_key (in_point slice packets) ≡ false = rw (same.0, same.1) cause.3 in
-    cc
-completes old new cut files (NoFile input) cause read write slice packets ready key calm = elim cause.1 [
-  | inl first ↦ absurd (missing_place files cut.list ready.list ready.given.list_is first.1)
-  | inr second ↦ absurd (missing_place files cut.source ready.source ready.given.source_is second.2)
-]
-completes old new cut files NotYet cause read write slice packets ready key calm = elim cause [
-  | inl clash ↦ let apart : clashes cut ≡ false = ready.given.apart in cc
-  | inr given ↦ absurd (not_covered cut files slice packets given.0 given.1 ready given.2.list_is given.2.source_is given.3)
+-- inputs that are given are there
+pub given_not_missing : (cut : Cut) (files : List File) (list source : List ℕ) (input : ℕ) → IsGiven cut files list source → IsMissing files (cut.list ∷ cut.source ∷ []) input → ⊥
+given_not_missing cut files list source input given missing = elim missing [
+  | inl first ↦ not_absent files cut.list list given.list_is first.1
+  | inr more ↦ elim more.1 [
+    | inl second ↦ not_absent files cut.source source given.source_is second.1
+    | inr none ↦ absurd none.1
+  ]
 ]
 
--- what was made since reads is made since they began
-pub makes_since : (old mid new : Meaning) (name bytes : List ℕ) → Looks old mid → Makes mid new name bytes → Makes old new name bytes
-makes_since old mid new name bytes looks makes =
-    let outputs : mid.outputs ≡ old.outputs = ap {A = Meaning} (λ m. m.outputs) looks in
-    let named : mid.named ≡ old.named = ap {A = Meaning} (λ m. m.named) looks in
-    record { outputs = rw (← outputs) makes.outputs; asked_for = rw (← named) makes.asked_for }
+-- a cut of inputs that are ready has one slice and one list of packets
+pub one_cut : (cut : Cut) (files : List File) (slice other : Slice) (packets more : Packets) → IsReady cut files slice packets → IsReady cut files other more → (slice ≡ other) × (packets ≡ more)
+one_cut cut files slice other packets more ready next = not_past cut files slice other packets more next.list next.source ready next.given.list_is next.given.source_is next.range.list_is next.range.plain

@@ -1,5 +1,5 @@
 pub mod ListLemmas
 pub mod SourceLemmas
 pub mod CopyLemmas
-pub mod MakingLemmas
 pub mod CuttingLemmas
+pub mod CauseLemmas

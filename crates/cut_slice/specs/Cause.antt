@@ -1,19 +1,16 @@
 -- When each status comes, over inputs that are told (own).
-use Rattle.std.specs.Prelude.{◌≡◌, ⊤, ℕ, ◌-◌, ◌<◌, ◌≤◌, true, false, List, [], length, take, drop, Option, Some, None, Result, Ok, Err, IsSome, ◌⊎◌, slice_get}
-use Rattle.std.specs.Option.{option_map, option_map_or}
-use Rattle.vid_desk.specs.Meaning.{File, Meaning, place_of, bytes_at, Rose}
+use Rattle.std.specs.Prelude.{◌≡◌, ⊤, ℕ, ◌-◌, ◌^◌, ◌<◌, ◌≤◌, true, false, List, [], ◌∷◌, length, take, drop, Some, None, ◌⊎◌, slice_get}
+use Rattle.std.specs.Option.{option_map_or}
+use Rattle.vid_desk.specs.Meaning.{File, Meaning}
 use Rattle.ogg_page.specs.Granule.{is_key}
 use Rattle.ogg_page.specs.OutputPages.{paged}
 use Rattle.cut_slice.specs.Words.{Cut, clashes}
-use Rattle.cut_slice.specs.Output.{Makes}
+use Rattle.cut_desk.specs.Inputs.{contents, IsMissing}
+use Rattle.cut_desk.specs.Outputs.{LeavesOutputs, Makes}
 use Rattle.cut_slice.specs.SliceList.{Slice, slice_of}
 use Rattle.cut_slice.specs.Plain.{Packets, IsPlain, NotPlain, stream_of}
 use Rattle.cut_report.specs.declared.status.Status.{Status}
 use Rattle.cut_report.specs.declared.status.Status.TheVariants.{Done, Usage, NoFile, BadSource, ReadFault, WriteFault, NoMem, TooLong, InPointNotKey, NotYet}
-
--- the bytes of the input of that name
-abbrev pub contents : List File → List ℕ → Option (List ℕ)
-contents files name = option_map (λ id. bytes_at files id) (place_of files name)
 
 -- the names are apart, and both inputs are there
 pub record IsGiven (cut : Cut) (files : List File) (list source : List ℕ) : Type 0 where
@@ -47,17 +44,31 @@ abbrev pub NotCovered : List ℕ → List ℕ → Type 0
 NotCovered list source = (slice_of list ≡ None) ⊎ (NotPlain source
     ⊎ ((slice : Slice) × (packets : Packets) × (slice_of list ≡ Some slice) × IsPlain source packets × (length packets.frames < slice.past)))
 
--- the first input, in the order of the words, that is not there
+-- of the statuses that come while inputs are looked for, NoFile says which is the first that is not there
 abbrev pub Missing : List File → List ℕ → List ℕ → Status → Type 0
-Missing files list source (NoFile input) = ((input ≡ 1) × (place_of files list ≡ None)) ⊎ ((input ≡ 2) × IsSome (place_of files list) × (place_of files source ≡ None))
-Missing files list source _ = ⊤
+Missing files list source (NoFile input) = IsMissing files (list ∷ source ∷ []) input
+Missing files list source ReadFault = ⊤
+Missing files list source NoMem = ⊤
+Missing files list source Done = ⊥
+Missing files list source Usage = ⊥
+Missing files list source (BadSource at what) = ⊥
+Missing files list source WriteFault = ⊥
+Missing files list source (TooLong input bytes) = ⊥
+Missing files list source InPointNotKey = ⊥
+Missing files list source NotYet = ⊥
 
 -- statuses that come while inputs are looked for
 abbrev pub IsLooking : Status → Type 0
+IsLooking Done = ⊥
+IsLooking Usage = ⊥
 IsLooking (NoFile input) = ⊤
+IsLooking (BadSource at what) = ⊥
 IsLooking ReadFault = ⊤
+IsLooking WriteFault = ⊥
 IsLooking NoMem = ⊤
-IsLooking _ = ⊥
+IsLooking (TooLong input bytes) = ⊥
+IsLooking InPointNotKey = ⊥
+IsLooking NotYet = ⊥
 
 -- both inputs are there, and the list is of the form
 pub record GivesBoth (files : List File) (list source : List ℕ) (slice : Slice) (bytes : List ℕ) : Type 0 where
@@ -66,15 +77,40 @@ pub record GivesBoth (files : List File) (list source : List ℕ) (slice : Slice
   pub source_is : contents files source ≡ Some bytes
   pub slice_is : slice_of text ≡ Some slice
 
--- both are there, and the list is of another form or the source is not plain
+-- the most bytes of a list
+abbrev pub longest_list : ℕ
+longest_list = 2 ^ 20
+
+-- a list of more bytes is not read
+abbrev pub SparesLong : Meaning → Meaning → List File → List ℕ → Type 0
+SparesLong old new files list = (text : List ℕ) → contents files list ≡ Some text → longest_list < length text → new.asked ≡ old.asked
+
+-- of the statuses that come while inputs are looked for and read, NotYet says that both are there, and the list is of another
+-- form or the source is not plain
 abbrev pub RefusesBoth : List File → List ℕ → List ℕ → Status → Type 0
 RefusesBoth files list source NotYet = (text : List ℕ) × (bytes : List ℕ) × (contents files list ≡ Some text) × (contents files source ≡ Some bytes) × ((slice_of text ≡ None) ⊎ NotPlain bytes)
-RefusesBoth files list source status = Missing files list source status
+RefusesBoth files list source (NoFile input) = IsMissing files (list ∷ source ∷ []) input
+RefusesBoth files list source ReadFault = ⊤
+RefusesBoth files list source NoMem = ⊤
+RefusesBoth files list source Done = ⊥
+RefusesBoth files list source Usage = ⊥
+RefusesBoth files list source (BadSource at what) = ⊥
+RefusesBoth files list source WriteFault = ⊥
+RefusesBoth files list source (TooLong input bytes) = ⊥
+RefusesBoth files list source InPointNotKey = ⊥
 
 -- statuses that come while inputs are looked for and read
 abbrev pub IsReading : Status → Type 0
+IsReading Done = ⊥
+IsReading Usage = ⊥
+IsReading (NoFile input) = ⊤
+IsReading (BadSource at what) = ⊥
+IsReading ReadFault = ⊤
+IsReading WriteFault = ⊥
+IsReading NoMem = ⊤
+IsReading (TooLong input bytes) = ⊥
+IsReading InPointNotKey = ⊥
 IsReading NotYet = ⊤
-IsReading status = IsLooking status
 
 -- the source is plain, the slice lies in it and begins at a key frame, and an output of that name holds the cut
 pub record Cuts (old new : Meaning) (out : List ℕ) (slice : Slice) (bytes : List ℕ) : Type 0 where
@@ -84,26 +120,51 @@ pub record Cuts (old new : Meaning) (out : List ℕ) (slice : Slice) (bytes : Li
   pub key : is_key (in_point slice packets) ≡ true
   pub makes : Makes old new out (cut_bytes slice packets)
 
--- the source is not plain, or the slice ends past it, or does not begin at a key frame
+-- of the statuses that come while the source is cut, two say why: it is not plain or the slice ends past it; the slice does
+-- not begin at a key frame
 abbrev pub RefusesSource : Slice → List ℕ → Status → Type 0
 RefusesSource slice bytes NotYet = NotPlain bytes ⊎ ((packets : Packets) × IsPlain bytes packets × (length packets.frames < slice.past))
 RefusesSource slice bytes InPointNotKey = (packets : Packets) × IsPlain bytes packets × (slice.past ≤ length packets.frames) × (is_key (in_point slice packets) ≡ false)
-RefusesSource slice bytes _ = ⊤
+RefusesSource slice bytes WriteFault = ⊤
+RefusesSource slice bytes NoMem = ⊤
+RefusesSource slice bytes Done = ⊥
+RefusesSource slice bytes Usage = ⊥
+RefusesSource slice bytes (NoFile input) = ⊥
+RefusesSource slice bytes (BadSource at what) = ⊥
+RefusesSource slice bytes ReadFault = ⊥
+RefusesSource slice bytes (TooLong input size) = ⊥
+
+-- the source is plain, and the slice lies in it and begins at a key frame
+abbrev pub CanBeCut : Slice → List ℕ → Type 0
+CanBeCut slice bytes = (packets : Packets) × IsPlain bytes packets × (slice.past ≤ length packets.frames) × (is_key (in_point slice packets) ≡ true)
 
 -- statuses that come while the source is cut
 abbrev pub IsCutting : Status → Type 0
-IsCutting NotYet = ⊤
-IsCutting InPointNotKey = ⊤
+IsCutting Done = ⊥
+IsCutting Usage = ⊥
+IsCutting (NoFile input) = ⊥
+IsCutting (BadSource at what) = ⊥
+IsCutting ReadFault = ⊥
 IsCutting WriteFault = ⊤
 IsCutting NoMem = ⊤
-IsCutting _ = ⊥
+IsCutting (TooLong input bytes) = ⊥
+IsCutting InPointNotKey = ⊤
+IsCutting NotYet = ⊤
+
+-- all that a cut needs: inputs that are ready, and a key frame at the in-point
+abbrev pub IsGivenAll : Cut → List File → Type 0
+IsGivenAll cut files = (slice : Slice) × (packets : Packets) × IsReady cut files slice packets × (is_key (in_point slice packets) ≡ true)
+
+-- nothing was asked of the outputs but where all was given
+abbrev pub CreatesWhenGiven : Meaning → Meaning → Cut → List File → Type 0
+CreatesWhenGiven old new cut files = LeavesOutputs old new ⊎ IsGivenAll cut files
 
 -- the cause of each status of a cut; want of memory has none, and a desk's counts show the faults of reading and writing
 abbrev pub Caused : Cut → List File → Status → Type 0
-Caused cut files Done = (slice : Slice) × (packets : Packets) × IsReady cut files slice packets × (is_key (in_point slice packets) ≡ true)
+Caused cut files Done = IsGivenAll cut files
 Caused cut files InPointNotKey = (slice : Slice) × (packets : Packets) × IsReady cut files slice packets × (is_key (in_point slice packets) ≡ false)
 Caused cut files NotYet = (clashes cut ≡ true) ⊎ ((list : List ℕ) × (source : List ℕ) × IsGiven cut files list source × NotCovered list source)
-Caused cut files (NoFile input) = (clashes cut ≡ false) × Missing files cut.list cut.source (NoFile input)
+Caused cut files (NoFile input) = (clashes cut ≡ false) × IsMissing files (cut.list ∷ cut.source ∷ []) input
 Caused cut files Usage = ⊥
 Caused cut files (BadSource source what) = ⊥
 Caused cut files (TooLong input bytes) = ⊥
@@ -111,18 +172,9 @@ Caused cut files ReadFault = ⊤
 Caused cut files WriteFault = ⊤
 Caused cut files NoMem = ⊤
 
--- the status of a cut that was done or refused
-abbrev pub status_in : Result ⊤ Status → Status
-status_in (Ok _) = Done
-status_in (Err status) = status
-
 -- an output of the name OUT was created, and it holds the cut of a slice and a source that these inputs give
 pub record Written (old new : Meaning) (cut : Cut) (files : List File) : Type 0 where
   pub slice : Slice
   pub packets : Packets
   pub ready : IsReady cut files slice packets
   pub makes : Makes old new cut.out (cut_bytes slice packets)
-
--- no fault of reading or writing was counted
-abbrev pub IsCalm : Meaning → Meaning → Type 0
-IsCalm old new = (Rose old.read_faults new.read_faults → ⊥) × (Rose old.write_faults new.write_faults → ⊥)

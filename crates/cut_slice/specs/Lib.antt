@@ -4,7 +4,4 @@ pub mod Slices
 pub mod Plain
 pub mod Sources
 pub mod Copy
-pub mod Making
-pub mod Output
 pub mod Cause
-pub mod Faults

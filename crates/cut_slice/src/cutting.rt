@@ -5,16 +5,20 @@ ghost use Rattle.vid_desk.specs.Meaning.{File, Told, ToldFiles, HasCause, Rose, 
 ghost use Rattle.cut_slice.specs.SliceList.{slice_of};
 ghost use Rattle.cut_slice.specs.Slices.{slice_view};
 ghost use Rattle.cut_slice.specs.Plain.{NotPlain};
-ghost use Rattle.cut_slice.specs.Cause.{IsGiven, IsReady, Caused, Missing, IsLooking, GivesBoth, RefusesBoth, IsReading, Cuts, RefusesSource, IsCutting, Written, status_in};
-ghost use Rattle.cut_slice.specs.Output.{Makes, MakesAtMost, Makings, Looks, Seeks, LeavesOutputsAt};
+ghost use Rattle.cut_desk.specs.Outputs.{Makes, MakesAtMost, Makings, LeavesOutputs, Looks, Seeks};
+ghost use Rattle.cut_desk.specs.Statuses.{LeavesOutputsAt, status_in};
+ghost use Rattle.cut_slice.specs.Cause.{CanBeCut, Caused, CreatesWhenGiven, Cuts, GivesBoth, IsCutting, IsLooking, IsReading, Missing, RefusesBoth, RefusesSource, SparesLong, Written};
 
 use crate::copy::copy;
-use crate::fault::{reading, writing};
 use crate::list::{Slice, read_slice};
 use crate::source::{SourceRefusal, is_key, read_source};
+use cut_desk::{reading, writing};
 use cut_report::Status;
 use std::alloc::{AllocError, Global};
 use vid_desk::{Desk, DeskFault};
+
+/// The most bytes of a list.
+const LONGEST_LIST: u64 = 1_048_576;
 
 /// The most bytes of a source.
 const LONGEST_SOURCE: u64 = 268_435_456;
@@ -41,6 +45,7 @@ fn find_inputs<D: Desk>(desk: &mut D, list: &str, source: &str) -> Result<Inputs
     ensures missing { IfErr result (λ status. ToldFiles (D.sees desk.old) (λ files. Missing files list.now source.now status)) }
     ensures names { Seeks (D.sees desk.old).sought (D.sees desk.new).sought (list.now ∷ source.now ∷ []) }
     ensures kept { Looks (D.sees desk.old) (D.sees desk.new) }
+    ensures unread { (D.sees desk.new).asked ≡ (D.sees desk.old).asked }
     ensures count { (D.sees desk.old).read_faults ≤ (D.sees desk.new).read_faults }
     ensures read { IsErrOf result Status.ReadFault → Rose (D.sees desk.old).read_faults (D.sees desk.new).read_faults }
     ensures only { IfErr result IsLooking }
@@ -147,13 +152,14 @@ struct Read {
     bytes: Vec<u8>,
 }
 
-// Reads the list, and then the source.
+// Reads the list, and then the source. A list of too many bytes is of no form, and is not read.
 fn read_both<D: Desk>(alloc: Global, desk: &mut D, list: &str, source: &str) -> Result<Read, Status>
     ensures read { IfOk result (λ read. ToldFiles (D.sees desk.old) (λ files. GivesBoth files list.now source.now (slice_view read.slice) read.bytes.items)) }
     ensures bounds { IfOk result (λ read. (read.slice.first < read.slice.past) × (read.slice.past ≤ 2147483647) × (vec_len read.bytes ≤ 268435456)) }
     ensures refused { IfErr result (λ status. ToldFiles (D.sees desk.old) (λ files. RefusesBoth files list.now source.now status)) }
     ensures names { Seeks (D.sees desk.old).sought (D.sees desk.new).sought (list.now ∷ source.now ∷ []) }
     ensures kept { Looks (D.sees desk.old) (D.sees desk.new) }
+    ensures unread { ToldFiles (D.sees desk.old) (λ files. SparesLong (D.sees desk.old) (D.sees desk.new) files list.now) }
     ensures count { (D.sees desk.old).read_faults ≤ (D.sees desk.new).read_faults }
     ensures fault { IsErrOf result Status.ReadFault → Rose (D.sees desk.old).read_faults (D.sees desk.new).read_faults }
     ensures only { IfErr result IsReading }
@@ -162,6 +168,9 @@ fn read_both<D: Desk>(alloc: Global, desk: &mut D, list: &str, source: &str) -> 
         Ok(inputs) => inputs,
         Err(status) => return Err(status),
     };
+    if inputs.list.size > LONGEST_LIST {
+        return Err(Status::NotYet);
+    }
     let slice = match read_list(alloc, desk, inputs.list) {
         Ok(Some(slice)) => slice,
         Ok(None) => return Err(Status::NotYet),
@@ -188,6 +197,7 @@ fn cut_source<D: Desk>(
     ensures cut { OnOk result (Cuts (D.sees desk.old) (D.sees desk.new) out.now (slice_view slice) bytes.now) }
     ensures refused { IfErr result (RefusesSource (slice_view slice) bytes.now) }
     ensures outputs { MakesAtMost (D.sees desk.old) (D.sees desk.new) out.now }
+    ensures created { LeavesOutputs (D.sees desk.old) (D.sees desk.new) ⊎ CanBeCut (slice_view slice) bytes.now }
     ensures before { LeavesOutputsAt (status_in result) (D.sees desk.old) (D.sees desk.new) }
     ensures kept { Makings (D.sees desk.old) (D.sees desk.new) }
     ensures count { (D.sees desk.old).write_faults ≤ (D.sees desk.new).write_faults }
@@ -214,7 +224,7 @@ fn cut_source<D: Desk>(
 /// Does `cut LIST OUT SRC`: it copies the slice of the list LIST out of the plain source SRC into the new output OUT. The
 /// order of refusals is: names that are the same; inputs that are not there, in the order of the words; the form of the
 /// list; the source; the slice past its frames; the in-point. No output is created before all of these were looked at.
-/// Nothing is said.
+/// A list of more than 1,048,576 bytes is of no form, and is not read. Nothing is said.
 pub fn cut<D: Desk>(
     alloc: Global,
     desk: &mut D,
@@ -225,7 +235,10 @@ pub fn cut<D: Desk>(
     ensures caused { ToldFiles (D.sees desk.old) (λ files. Caused (record { list = list.now; out = out.now; source = source.now }) files (status_in result)) }
     ensures written { OnOk result (ToldFiles (D.sees desk.old) (λ files. Written (D.sees desk.old) (D.sees desk.new) (record { list = list.now; out = out.now; source = source.now }) files)) }
     ensures outputs { MakesAtMost (D.sees desk.old) (D.sees desk.new) out.now }
+    // Nothing is asked of the outputs before all else was read and looked at, whatever the status.
+    ensures created { ToldFiles (D.sees desk.old) (λ files. CreatesWhenGiven (D.sees desk.old) (D.sees desk.new) (record { list = list.now; out = out.now; source = source.now }) files) }
     ensures before { LeavesOutputsAt (status_in result) (D.sees desk.old) (D.sees desk.new) }
+    ensures unread { ToldFiles (D.sees desk.old) (λ files. SparesLong (D.sees desk.old) (D.sees desk.new) files list.now) }
     ensures names { Seeks (D.sees desk.old).sought (D.sees desk.new).sought (list.now ∷ source.now ∷ []) }
     ensures inputs { (D.sees desk.new).inputs ≡ (D.sees desk.old).inputs }
     ensures said { (D.sees desk.new).said ≡ (D.sees desk.old).said }

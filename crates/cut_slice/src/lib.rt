@@ -3,12 +3,10 @@
 
 mod copy;
 mod cutting;
-mod fault;
 mod list;
 mod source;
 
 pub use cutting::cut;
-pub use fault::{reading, writing};
 
 #[cfg(test)]
 mod tests;

@@ -1,6 +1,6 @@
 use Rattle.std.proofs.Common.{◌≡◌, Some, refl, ap, sym, ◌∙◌}
 use Rattle.vid_desk.specs.Meaning.{Meaning, bytes_at, place_of}
-use Rattle.cut_slice.proofs.CuttingLemmas.{contents_is}
+use Rattle.cut_desk.proofs.InputLemmas.{contents_is}
 use Rattle.cut_app.proofs.CheckLemmas.{refused_caused}
 use Rattle.cut_app.proofs.checking.judge.Goals as goal
 

@@ -1,7 +1,9 @@
-use Rattle.std.proofs.Common.{◌≡◌, Some, sym, refl, map}
+use Rattle.std.proofs.Common.{◌≡◌, Some, ap, sym, refl, map}
+use Rattle.vid_desk.specs.Meaning.{Meaning}
+use Rattle.cut_report.specs.declared.status.Status.TheVariants.{Done}
 use Rattle.cut_app.specs.Forms.{form_of}
 use Rattle.cut_app.specs.Views.{form_view}
-use Rattle.cut_app.proofs.CompleteLemmas.{completes_told}
+use Rattle.cut_app.proofs.CauseLemmas.{completes_told, created_told, only, only_told}
 use Rattle.cut_app.proofs.SayingLemmas.{says_told}
 use Rattle.cut_app.proofs.command.oggcut.Goals as goal
 
@@ -14,4 +16,19 @@ returns-in-Err-clause-complete g c =
 pub returns-in-Err-clause-said : goal.returns-in-Err-clause-said
 returns-in-Err-clause-said g c =
     let form : form_of (map (λ word. word.now) c.args.words.now) ≡ Some (form_view c.in-Some.command) = sym c.in-Some.ensures in
-    rw form (says_told (g.D.Desk.sees c.args.desk.now) (g.D.Desk.sees c.run.new.desk) (g.D.Desk.sees c.tell-in-Err.new.desk) (form_view c.in-Some.command) c.in-Err.status c.tell-in-Err.result c.in-Err.ensures.stops (λ e. c.in-Err.ensures.done (rw e refl)) c.in-Err.ensures.count c.tell-in-Err.ensures.told)
+    rw form (says_told (g.D.Desk.sees c.args.desk.now) (g.D.Desk.sees c.run.new.desk) (g.D.Desk.sees c.tell-in-Err.new.desk) (form_view c.in-Some.command) c.in-Err.status c.tell-in-Err.result c.in-Err.ensures.stops (λ e. c.in-Err.ensures.done (rw e refl)) c.in-Err.ensures.count (ap {A = Meaning} (λ m. m.outputs) c.tell-in-Err.ensures.kept) c.tell-in-Err.ensures.told)
+
+pub returns-in-Ok-clause-only : goal.returns-in-Ok-clause-only
+returns-in-Ok-clause-only g c =
+    let form : form_of (map (λ word. word.now) c.args.words.now) ≡ Some (form_view c.in-Some.command) = sym c.in-Some.ensures in
+    rw form (λ files told. only (Some (form_view c.in-Some.command)) files Done (c.in-Ok.ensures.caused files told))
+
+pub returns-in-Err-clause-only : goal.returns-in-Err-clause-only
+returns-in-Err-clause-only g c =
+    let form : form_of (map (λ word. word.now) c.args.words.now) ≡ Some (form_view c.in-Some.command) = sym c.in-Some.ensures in
+    rw form (λ files told. only_told (g.D.Desk.sees c.run.new.desk) (g.D.Desk.sees c.tell-in-Err.new.desk) (form_view c.in-Some.command) files c.in-Err.status c.tell-in-Err.result (c.in-Err.ensures.caused files told) c.tell-in-Err.ensures.told)
+
+pub returns-in-Err-clause-created : goal.returns-in-Err-clause-created
+returns-in-Err-clause-created g c =
+    let form : form_of (map (λ word. word.now) c.args.words.now) ≡ Some (form_view c.in-Some.command) = sym c.in-Some.ensures in
+    rw form (λ files told. created_told (g.D.Desk.sees c.args.desk.now) (g.D.Desk.sees c.run.new.desk) (g.D.Desk.sees c.tell-in-Err.new.desk) (form_view c.in-Some.command) files c.tell-in-Err.ensures.kept (c.in-Err.ensures.created files told))

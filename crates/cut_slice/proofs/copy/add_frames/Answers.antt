@@ -1,5 +1,5 @@
 use Rattle.std.proofs.Common.{◌++◌, ◌+◌, [], refl, arith, ◌∙◌}
-use Rattle.cut_slice.proofs.MakingLemmas.{adds_none, adds_twice, adds_onto}
+use Rattle.cut_desk.proofs.MakingLemmas.{adds_none, adds_twice, adds_onto}
 use Rattle.cut_slice.proofs.CopyLemmas.{short_at, frame_came, frames_came, granule_is}
 use Rattle.cut_slice.specs.Plain.{stream_of}
 use Rattle.cut_slice.specs.Sources.{packets_view}

@@ -1,7 +1,7 @@
 use Rattle.std.proofs.Common.{◌≡◌, ◌≤◌, ◌+◌, ◌++◌, List, ℕ, map, drop}
 use Rattle.ogg_page.specs.Written.{written_pages}
 use Rattle.cut_slice.specs.Copy.{frame_pages}
-use Rattle.cut_slice.specs.Making.{Adds}
+use Rattle.cut_desk.specs.Making.{Adds}
 use Rattle.cut_slice.specs.Plain.{stream_of}
 use Rattle.cut_slice.specs.Sources.{packets_view}
 use Rattle.cut_slice.proofs.copy.add_frames.Given as goal

@@ -1,4 +1,4 @@
-use Rattle.cut_slice.proofs.MakingLemmas.{adds_twice, adds_onto}
+use Rattle.cut_desk.proofs.MakingLemmas.{adds_twice, adds_onto}
 use Rattle.cut_slice.proofs.CopyLemmas.{written_two}
 use Rattle.cut_slice.proofs.copy.add_headers.Goals as goal
 

@@ -1,7 +1,7 @@
 use Rattle.std.proofs.Common.{[], refl, arith, rules, ◌≡◌, length}
 use Rattle.cut_slice.specs.Copy.{lacing_of}
 use Rattle.cut_slice.proofs.CopyLemmas.{packet_shape}
-use Rattle.cut_slice.proofs.MakingLemmas.{adds_none}
+use Rattle.cut_desk.proofs.MakingLemmas.{adds_none}
 use Rattle.cut_slice.proofs.copy.add_packet.Goals as goal
 
 pub returns-then-is_err-clause-part : goal.returns-then-is_err-clause-part

@@ -1,5 +1,5 @@
 use Rattle.std.proofs.Common.{[], refl, arith}
-use Rattle.cut_slice.proofs.MakingLemmas.{adds_none, adds_part}
+use Rattle.cut_desk.proofs.MakingLemmas.{adds_none, adds_part}
 use Rattle.cut_slice.proofs.copy.add_page.Goals as goal
 
 pub returns-then-is_err-clause-part : goal.returns-then-is_err-clause-part

@@ -1,6 +1,6 @@
 use Rattle.std.proofs.Common.{[], refl, arith, rules}
 use Rattle.cut_slice.proofs.CopyLemmas.{two_shape_of}
-use Rattle.cut_slice.proofs.MakingLemmas.{adds_none}
+use Rattle.cut_desk.proofs.MakingLemmas.{adds_none}
 use Rattle.cut_slice.proofs.copy.add_two.Goals as goal
 
 pub returns-then-is_err-clause-part : goal.returns-then-is_err-clause-part

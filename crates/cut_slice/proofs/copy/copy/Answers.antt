@@ -4,11 +4,11 @@ use Rattle.std.specs.List.{take-map, drop-map}
 use Rattle.std.proofs.lemmas.List.Elements.{All-take, All-drop}
 use Rattle.ogg_page.specs.Written.{written_pages}
 use Rattle.cut_slice.specs.Copy.{IsShort, header_pages, frame_pages}
-use Rattle.cut_slice.specs.Making.{IsMaking}
+use Rattle.cut_desk.specs.Making.{IsMaking}
 use Rattle.cut_slice.specs.Plain.{stream_of}
 use Rattle.cut_slice.specs.Sources.{packets_view}
 use Rattle.cut_slice.proofs.CopyLemmas.{short_part, cut_written}
-use Rattle.cut_slice.proofs.MakingLemmas.{making_more, makes_is, made_part}
+use Rattle.cut_desk.proofs.MakingLemmas.{making_more, makes_is, made_part}
 use Rattle.cut_slice.proofs.copy.copy.Goals as goal
 
 pub returns-in-Err-add_headers-clause-made : goal.returns-in-Err-add_headers-clause-made

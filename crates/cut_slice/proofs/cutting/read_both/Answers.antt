@@ -1,9 +1,10 @@
-use Rattle.std.proofs.Common.{◌≡◌, Some, None, ap, sym, ◌∙◌, refl, inl, inr}
+use Rattle.std.proofs.Common.{◌≡◌, Some, None, ap, sym, ◌∙◌, refl, inl, inr, arith}
 use Rattle.std.specs.Option.{option_map}
 use Rattle.vid_desk.specs.Meaning.{Meaning, bytes_at}
 use Rattle.cut_slice.specs.SliceList.{slice_of}
 use Rattle.cut_slice.specs.Slices.{slice_view}
-use Rattle.cut_slice.proofs.CuttingLemmas.{contents_is}
+use Rattle.cut_desk.proofs.InputLemmas.{contents_is}
+use Rattle.cut_slice.proofs.ListLemmas.{long_no_slice}
 use Rattle.cut_slice.proofs.cutting.read_both.Goals as goal
 
 pub returns-in-Ok-None-clause-refused : goal.returns-in-Ok-None-clause-refused
@@ -42,4 +43,15 @@ returns-in-Ok-None-read_bytes-clause-refused g c = λ files told.
       contents_is files c.args.list.now c.in-Ok.inputs.list.id _ places.0 refl,
       contents_is files c.args.source.now c.in-Ok.inputs.source.id _ places.1 refl,
       inr not_plain,
+    )
+
+pub returns-then-inputs-gt-LONGEST_LIST-clause-refused : goal.returns-then-inputs-gt-LONGEST_LIST-clause-refused
+returns-then-inputs-gt-LONGEST_LIST-clause-refused g c = λ files told.
+    let places = c.in-Ok.ensures.places files told in
+    let sizes = c.in-Ok.ensures.sizes files told in (
+      bytes_at files c.in-Ok.inputs.list.id,
+      bytes_at files c.in-Ok.inputs.source.id,
+      contents_is files c.args.list.now c.in-Ok.inputs.list.id _ places.0 refl,
+      contents_is files c.args.source.now c.in-Ok.inputs.source.id _ places.1 refl,
+      inl (long_no_slice (bytes_at files c.in-Ok.inputs.list.id) (omega (arith, sizes.0, c.if-inputs-gt-LONGEST_LIST.true))),
     )

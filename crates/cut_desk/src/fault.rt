@@ -1,6 +1,6 @@
 // Faults of a desk as statuses (own).
 ghost use Rattle.std.specs.Prelude.{◌≡◌};
-ghost use Rattle.cut_slice.specs.Faults.{reading_status, writing_status};
+ghost use Rattle.cut_desk.specs.Statuses.{reading_status, writing_status};
 
 use cut_report::Status;
 use vid_desk::DeskFault;

@@ -1,8 +1,6 @@
 -- What a command leaves of the outputs and of the names that a desk was asked for (own).
-use Rattle.std.specs.Prelude.{◌≡◌, ℕ, ⊤, List, [], ◌∷◌, ◌⊎◌, Option}
-use Rattle.vid_desk.specs.Meaning.{Meaning, with_last}
-use Rattle.cut_report.specs.declared.status.Status.{Status}
-use Rattle.cut_report.specs.declared.status.Status.TheVariants.{Usage, NoFile, BadSource, TooLong, InPointNotKey, NotYet}
+use Rattle.std.specs.Prelude.{◌≡◌, ℕ, List, [], ◌∷◌, ◌⊎◌, Option}
+use Rattle.vid_desk.specs.Meaning.{Meaning, Rose, with_last}
 
 -- one output was created, with this name, and holds these bytes
 pub record Makes (old new : Meaning) (name bytes : List ℕ) : Type 0 where
@@ -30,17 +28,11 @@ Looks old new = new ≡ record old { sought = new.sought; read_faults = new.read
 abbrev pub LeavesOutputs : Meaning → Meaning → Type 0
 LeavesOutputs old new = (new.outputs ≡ old.outputs) × (new.named ≡ old.named)
 
--- statuses that come before the step that creates the output
-abbrev pub LeavesOutputsAt : Status → Meaning → Meaning → Type 0
-LeavesOutputsAt Usage old new = LeavesOutputs old new
-LeavesOutputsAt (NoFile input) old new = LeavesOutputs old new
-LeavesOutputsAt (BadSource source what) old new = LeavesOutputs old new
-LeavesOutputsAt (TooLong input bytes) old new = LeavesOutputs old new
-LeavesOutputsAt InPointNotKey old new = LeavesOutputs old new
-LeavesOutputsAt NotYet old new = LeavesOutputs old new
-LeavesOutputsAt _ old new = ⊤
-
 -- the first of these names were looked for, in order
 abbrev pub Seeks : Option (List (List ℕ)) → Option (List (List ℕ)) → List (List ℕ) → Type 0
 Seeks old new [] = new ≡ old
 Seeks old new (name ∷ names) = (new ≡ old) ⊎ Seeks (with_last old name) new names
+
+-- no fault of reading or writing was counted
+abbrev pub IsCalm : Meaning → Meaning → Type 0
+IsCalm old new = (Rose old.read_faults new.read_faults → ⊥) × (Rose old.write_faults new.write_faults → ⊥)

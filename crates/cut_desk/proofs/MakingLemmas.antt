@@ -5,8 +5,8 @@ use Rattle.vid_desk.specs.Meaning.{File, Meaning, with_last, with_more, Appends}
 use Rattle.vid_desk.specs.declared.fault.DeskFault.{DeskFault}
 use Rattle.vid_desk.specs.declared.fault.DeskFault.TheVariants.{Failed, NoMem}
 use Rattle.vid_desk.proofs.FileLemmas.{with_more-last, with_more-nil, with_more-twice}
-use Rattle.cut_slice.specs.Making.{Adds, IsMaking}
-use Rattle.cut_slice.specs.Output.{Makes, MakesAtMost}
+use Rattle.cut_desk.specs.Making.{Adds, IsMaking}
+use Rattle.cut_desk.specs.Outputs.{Makes, MakesAtMost}
 
 -- bytes for the last output
 last_more : (outputs : Option (List File)) (id : ℕ) (name bytes came : List ℕ) → ((files : List File) → outputs ≡ Some files → id ≡ length files)

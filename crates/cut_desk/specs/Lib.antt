@@ -1,0 +1,4 @@
+pub mod Inputs
+pub mod Outputs
+pub mod Making
+pub mod Statuses
