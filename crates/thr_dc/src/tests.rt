@@ -292,9 +292,21 @@ fn drawn_frames_of_three_formats_are_limited_applied_and_undone(
 }
 
 #[test]
-fn a_frame_of_the_greatest_size_is_limited_applied_and_undone(rt: HostRuntime) -> Result<(), Fail> {
+fn one_difference_is_the_value_of_a_whole_plane_of_the_greatest_frame(
+    rt: HostRuntime,
+) -> Result<(), Fail> {
     let geom = layout(&rt, rt.alloc(), 512, 256, 3);
-    let mut frame = drawn_frame(rt.alloc(), &geom, 5)?;
-    pass_through_differences(&rt, &geom, &mut frame)?;
+    let mut frame = uncoded_frame(rt.alloc(), &geom, 0)?;
+    for flag in frame.flags.iter_mut() {
+        *flag = true;
+    }
+    if let Some(values) = frame.coeffs.values.first_mut() {
+        values[0] = 7;
+    }
+    change(&rt, &geom, &mut frame, Change::Undo);
+    for (place, values) in frame.coeffs.values.iter().enumerate() {
+        let value = if place < 524_288 { 7 } else { 0 };
+        assert!(rt; values[0] == value, "{place}");
+    }
     Ok(())
 }
