@@ -1,10 +1,12 @@
 -- The blocks of a plane by their places in raster order and by their coded places. The walks through a plane cite these.
-use Rattle.std.proofs.Common.{◌≡◌, ◌∙◌, ℕ, ◌*◌, ◌/◌, ◌%◌, ◌<◌, Bool, true, false, List, [], length, get_or, Some, None, ℤ, pos, refl, arith}
+use Rattle.std.proofs.Common.{◌≡◌, ◌∙◌, ℕ, zero, suc, ◌+◌, ◌-◌, ◌*◌, ◌/◌, ◌%◌, ◌<◌, ◌≤◌, Bool, true, false, List, [], length, get_or, Some, None, ℤ, pos, refl, ap, arith}
 use Rattle.std.proofs.lemmas.List.FromFn.{length-map-range_with_len, get_or-map-range_with_len}
-use Rattle.std.proofs.lemmas.Nat.{div_below, mod_below}
+use Rattle.std.proofs.lemmas.Nat.{div-mul-add, div_below, mod-mul-add, mod_below}
+use Rattle.std.proofs.Math.Nat.{suc-mul}
 use Rattle.vid_base.specs.declared.shape.Shape.{Shape}
-use Rattle.vid_geom.specs.CodedOrder.{place_of, plane_blocks}
-use Rattle.thr_dc.specs.Frames.{dc_at, plane_of, raster_block}
+use Rattle.vid_geom.specs.CodedOrder.{block_columns, place_of, plane_blocks}
+use Rattle.thr_dc.specs.Frames.{block_at, dc_at, plane_of, raster_block}
+use Rattle.thr_dc.specs.Planes.{IsAlong}
 
 -- a place of a plane has a column and a row
 pub some_column : (w h place : ℕ) → place < w * h → 0 < w
@@ -40,3 +42,38 @@ unfolding dc_at
 uncoded_block s flags kinds values pli place coded_place h e flag =
     let there = block_in_plane s flags kinds values pli place h in
     (rw (← e) at there) ∙ rw flag refl
+
+-- the column and the row of a place
+pub along_here : (w place : ℕ) → 0 < w → IsAlong w place (place % w) (place / w)
+along_here w place some = record { inside = mod_below place w some; place_is = grind arith }
+
+-- those of the places to the left, to the right and below
+pub along_left : (w place column row : ℕ) → 0 < column → IsAlong w place column row → IsAlong w (place - 1) (column - 1) row
+along_left w place column row some along = record { inside = omega (arith, along.inside); place_is = omega (arith, along.place_is) }
+
+pub along_right : (w place column row : ℕ) → column + 1 < w → IsAlong w place column row → IsAlong w (place + 1) (column + 1) row
+along_right w place column row more along = record { inside = more; place_is = omega (arith, along.place_is) }
+
+pub row_above : (w place column row : ℕ) → w ≤ place → IsAlong w place column row → 0 < row
+row_above w place column zero h along = omega (arith, along.inside, along.place_is)
+row_above w place column (suc row) h along = omega arith
+
+pub along_below : (w place column row : ℕ) → w ≤ place → IsAlong w place column row → IsAlong w (place - w) column (row - 1)
+along_below w place column row h along =
+    let some = row_above w place column row h along in
+    let next : row ≡ suc (row - 1) = omega arith in
+    let more : row * w ≡ (row - 1) * w + w = ap (λ r. r * w) next ∙ suc-mul (row - 1) w in
+    record { inside = along.inside; place_is = omega (arith, along.place_is, more) }
+
+-- the block there
+pub along_block : (s : Shape) (pli place column row : ℕ) → IsAlong (block_columns s pli) place column row → block_at pli column row ≡ raster_block s pli place
+unfolding raster_block
+along_block s pli place column row along =
+    let w = block_columns s pli in
+    let column_is : place % w ≡ column = ap (λ p. p % w) along.place_is ∙ mod-mul-add row w column along.inside in
+    let row_is : place / w ≡ row = ap (λ p. p / w) along.place_is ∙ div-mul-add row w column along.inside in
+    rw (column_is, row_is) refl
+
+-- it stands in the plane
+pub along_within : (w h place column row : ℕ) → row < h → IsAlong w place column row → place < w * h
+along_within w h place column row low along = grind (arith, along.inside, along.place_is)

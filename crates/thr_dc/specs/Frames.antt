@@ -7,9 +7,13 @@ use Rattle.vid_geom.specs.declared.block.Block.{Block}
 use Rattle.vid_geom.specs.CodedOrder.{block_columns, order_of, place_of, plane_blocks}
 use Rattle.thr_dc.specs.Blocks.{Coded}
 
+-- the block of a plane in a column and a row
+abbrev pub block_at : ℕ → ℕ → ℕ → Block
+block_at pli column row = record { pli = pli; col = column; row = row }
+
 -- the block of a plane at a place in raster order from the lower left
 unfoldable pub raster_block : Shape → ℕ → ℕ → Block
-raster_block s pli place = record { pli = pli; col = place % block_columns s pli; row = place / block_columns s pli }
+raster_block s pli place = block_at pli (place % block_columns s pli) (place / block_columns s pli)
 
 -- where a block stands in the raster order of its plane
 unfoldable pub raster_place : Shape → Block → ℕ

@@ -1,5 +1,5 @@
 -- A plane of a frame as the code holds it (own).
-use Rattle.std.specs.Prelude.{ℕ, ◌≡◌, ◌<◌, Bool, List, length}
+use Rattle.std.specs.Prelude.{ℕ, ◌≡◌, ◌<◌, ◌+◌, ◌*◌, Bool, List, length}
 use Rattle.vid_base.specs.declared.shape.Shape.{Shape}
 use Rattle.vid_geom.specs.CodedOrder.{block_columns, order_of, plane_blocks}
 
@@ -10,3 +10,8 @@ pub record IsPlane (s : Shape) (flags : List Bool) (kinds : List ℕ) (pli colum
   pub kinds_long : length kinds ≡ length (order_of s)
   pub columns_are : columns ≡ block_columns s pli
   pub blocks_are : blocks ≡ plane_blocks s pli
+
+-- the column and the row of a place in the raster order of a plane that has so many columns
+pub record IsAlong (columns place column row : ℕ) : Type 0 where
+  pub inside : column < columns
+  pub place_is : place ≡ row * columns + column

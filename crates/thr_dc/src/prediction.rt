@@ -1,8 +1,8 @@
 // The DC predictor of a block of a plane (Theora I, 7.8.1).
-ghost use Rattle.std.specs.Prelude.{◌≡◌, ◌<◌, ◌≤◌, IfSome, None, get_or, length, take, true, unsigned_abs};
-ghost use Rattle.vid_geom.specs.CodedOrder.{block_columns, order_of, place_of, plane_blocks};
-ghost use Rattle.thr_dc.specs.Frames.{raster_block};
-ghost use Rattle.thr_dc.specs.Planes.{IsPlane};
+ghost use Rattle.std.specs.Prelude.{◌≡◌, ◌<◌, ◌≤◌, ℕ, IfSome, None, get_or, length, take, true, unsigned_abs};
+ghost use Rattle.vid_geom.specs.CodedOrder.{block_columns, block_rows, order_of, place_of, plane_blocks};
+ghost use Rattle.thr_dc.specs.Frames.{block_at, raster_block};
+ghost use Rattle.thr_dc.specs.Planes.{IsAlong};
 ghost use Rattle.thr_dc.specs.Prediction.{around, counted, last_of, neighbour, predicted};
 ghost use Rattle.thr_dc.specs.Walks.{blocks_of};
 
@@ -41,21 +41,31 @@ impl Plane<'_> {
         ensures value { result ≡ place_of self.now.geom.now (raster_block self.now.geom.now self.now.pli place) }
         ensures below { result < length (order_of self.now.geom.now) }
     {
+        self.coded_place_at(place % self.columns, place / self.columns)
+    }
+
+    // The coded place of the block in a column and a row: this divides nothing.
+    fn coded_place_at(&self, column: u32, row: u32) -> usize
+        requires column { column < block_columns self.now.geom.now self.now.pli }
+        requires row { row < block_rows self.now.geom.now self.now.pli }
+        ensures value { result ≡ place_of self.now.geom.now (block_at self.now.pli column row) }
+        ensures below { result < length (order_of self.now.geom.now) }
+    {
         let block = Block {
             pli: self.pli,
-            col: place % self.columns,
-            row: place / self.columns,
+            col: column,
+            row,
         };
         self.geom.place(block) as usize
     }
 
-    // The DC value of a block, where it counts for a kind.
-    fn counted(&self, values: &[[i16; 64]], place: u32, kind: u8) -> Option<i16>
-        requires place { place < self.now.blocks }
+    // The DC value of the block at a coded place, where it counts for a kind.
+    fn counted_at(&self, values: &[[i16; 64]], coded_place: usize, kind: u8) -> Option<i16>
+        requires below { coded_place < length (order_of self.now.geom.now) }
         requires values { length values.now ≡ length (order_of self.now.geom.now) }
-        ensures { result ≡ counted kind (get_or (blocks_of self.now values.now) place None) }
+        ensures { (place : ℕ) → place < plane_blocks self.now.geom.now self.now.pli → coded_place ≡ place_of self.now.geom.now (raster_block self.now.geom.now self.now.pli place) →
+            result ≡ counted kind (get_or (blocks_of self.now values.now) place None) }
     {
-        let coded_place = self.coded_place(place);
         if !self.flags[coded_place] {
             return None;
         }
@@ -65,14 +75,31 @@ impl Plane<'_> {
         Some(values[coded_place][0])
     }
 
-    // The value of the block at a place, where there is such a block and it counts.
-    fn neighbour(&self, values: &[[i16; 64]], kind: u8, there: bool, place: u32) -> Option<i16>
-        requires place { there ≡ true → place < self.now.blocks }
+    // The DC value of a block, where it counts for a kind.
+    fn counted(&self, values: &[[i16; 64]], place: u32, kind: u8) -> Option<i16>
+        requires place { place < self.now.blocks }
         requires values { length values.now ≡ length (order_of self.now.geom.now) }
-        ensures { result ≡ neighbour kind (blocks_of self.now values.now) there place }
+        ensures { result ≡ counted kind (get_or (blocks_of self.now values.now) place None) }
+    {
+        self.counted_at(values, self.coded_place(place), kind)
+    }
+
+    // The value of the block in a column and a row, where there is such a block and it counts.
+    fn neighbour(
+        &self,
+        values: &[[i16; 64]],
+        kind: u8,
+        there: bool,
+        column: u32,
+        row: u32,
+    ) -> Option<i16>
+        requires column { there ≡ true → column < block_columns self.now.geom.now self.now.pli }
+        requires row { there ≡ true → row < block_rows self.now.geom.now self.now.pli }
+        requires values { length values.now ≡ length (order_of self.now.geom.now) }
+        ensures { (place : ℕ) → (there ≡ true → IsAlong self.now.columns place column row) → result ≡ neighbour kind (blocks_of self.now values.now) there place }
     {
         if there {
-            self.counted(values, place, kind)
+            self.counted_at(values, self.coded_place_at(column, row), kind)
         } else {
             None
         }
@@ -100,15 +127,17 @@ impl Plane<'_> {
         ensures within { IfSome result (λ p. unsigned_abs p ≤ 32896) }
     {
         let column = place % self.columns;
+        let row = place / self.columns;
         let has_left = column > 0;
         let has_below = place >= self.columns;
         let has_right = column + 1 < self.columns;
-        let below = place.saturating_sub(self.columns);
+        let left = column.saturating_sub(1);
+        let below = row.saturating_sub(1);
         from_neighbours(
-            self.neighbour(values, kind, has_left, place.saturating_sub(1)),
-            self.neighbour(values, kind, has_left && has_below, below.saturating_sub(1)),
-            self.neighbour(values, kind, has_below, below),
-            self.neighbour(values, kind, has_below && has_right, below + 1),
+            self.neighbour(values, kind, has_left, left, row),
+            self.neighbour(values, kind, has_left && has_below, left, below),
+            self.neighbour(values, kind, has_below, column, below),
+            self.neighbour(values, kind, has_below && has_right, column + 1, below),
         )
     }
 

@@ -259,6 +259,22 @@ fn drawn_frame(alloc: Global, geom: &Geom, seed: u32) -> Result<Frame, AllocErro
     Ok(frame)
 }
 
+// Limits the values of a frame, turns them into differences and back.
+fn pass_through_differences(
+    rt: &impl Abort,
+    geom: &Geom,
+    frame: &mut Frame,
+) -> Result<(), AllocError> {
+    change(rt, geom, frame, Change::Limit);
+    let limited = frame.coeffs.values.clone()?;
+    assert!(rt; is_within_limit(&frame.flags, &limited));
+    change(rt, geom, frame, Change::Apply);
+    assert!(rt; is_within_limit(&frame.flags, &frame.coeffs.values));
+    change(rt, geom, frame, Change::Undo);
+    assert!(rt; frame.coeffs.values == limited, "{} blocks", geom.blocks());
+    Ok(())
+}
+
 #[test]
 fn drawn_frames_of_three_formats_are_limited_applied_and_undone(
     rt: HostRuntime,
@@ -268,18 +284,29 @@ fn drawn_frames_of_three_formats_are_limited_applied_and_undone(
             let geom = layout(&rt, rt.alloc(), columns, rows, format);
             for seed in 0..4u32 {
                 let mut frame = drawn_frame(rt.alloc(), &geom, seed)?;
-                change(&rt, &geom, &mut frame, Change::Limit);
-                let limited = frame.coeffs.values.clone()?;
-                assert!(rt; is_within_limit(&frame.flags, &limited));
-                change(&rt, &geom, &mut frame, Change::Apply);
-                assert!(rt; is_within_limit(&frame.flags, &frame.coeffs.values));
-                change(&rt, &geom, &mut frame, Change::Undo);
-                assert!(rt;
-                    frame.coeffs.values == limited,
-                    "{columns} by {rows} of format {format}"
-                );
+                pass_through_differences(&rt, &geom, &mut frame)?;
             }
         }
+    }
+    Ok(())
+}
+
+#[test]
+fn one_difference_is_the_value_of_a_whole_plane_of_the_greatest_frame(
+    rt: HostRuntime,
+) -> Result<(), Fail> {
+    let geom = layout(&rt, rt.alloc(), 512, 256, 3);
+    let mut frame = uncoded_frame(rt.alloc(), &geom, 0)?;
+    for flag in frame.flags.iter_mut() {
+        *flag = true;
+    }
+    if let Some(values) = frame.coeffs.values.first_mut() {
+        values[0] = 7;
+    }
+    change(&rt, &geom, &mut frame, Change::Undo);
+    for (place, values) in frame.coeffs.values.iter().enumerate() {
+        let value = if place < 524_288 { 7 } else { 0 };
+        assert!(rt; values[0] == value, "{place}");
     }
     Ok(())
 }

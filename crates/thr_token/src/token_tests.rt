@@ -320,9 +320,31 @@ fn drawn_coeffs(alloc: Global, flags: &[bool], dense: u32) -> Result<Coeffs, Fai
     Ok(coeffs)
 }
 
+// Writes coefficients, and reads them again.
+fn pass_through_bits(
+    rt: &impl Abort,
+    alloc: Global,
+    geom: &Geom,
+    flags: &[bool],
+    coeffs: &Coeffs,
+) -> Result<(), Fail> {
+    let tokens = tokens_of(rt, alloc, geom, flags, coeffs)?;
+    let bytes = written(rt, alloc, &tokens)?;
+    let forest = forest(alloc)?;
+    let mut back = Coeffs::new(alloc);
+    let mut r = BitReader::new(&bytes);
+    assert!(rt; flags.len() == geom.blocks() as usize);
+    assert_eq!(rt;
+        read_tokens(&mut r, &forest, geom, flags, &mut back),
+        Ok(())
+    );
+    assert!(rt; back.values.as_slice() == coeffs.values.as_slice());
+    assert!(rt; r.take(8).is_err());
+    Ok(())
+}
+
 #[test]
 fn coefficients_of_nine_shapes_are_written_and_read(rt: HostRuntime) -> Result<(), Fail> {
-    let forest = forest(rt.alloc())?;
     for (columns, rows) in [(1, 1), (2, 3), (5, 3)] {
         for format in [0, 2, 3] {
             let geom = layout(&rt, rt.alloc(), columns, rows, format);
@@ -330,20 +352,17 @@ fn coefficients_of_nine_shapes_are_written_and_read(rt: HostRuntime) -> Result<(
                 let coded = geom.blocks() as usize - 2;
                 let flags = flags_of(rt.alloc(), geom.blocks(), coded)?;
                 let coeffs = drawn_coeffs(rt.alloc(), &flags, dense)?;
-                let tokens = tokens_of(&rt, rt.alloc(), &geom, &flags, &coeffs)?;
-                let bytes = written(&rt, rt.alloc(), &tokens)?;
-                let mut back = Coeffs::new(rt.alloc());
-                let mut r = BitReader::new(&bytes);
-                if flags.len() == geom.blocks() as usize {
-                    assert_eq!(rt;
-                        read_tokens(&mut r, &forest, &geom, &flags, &mut back),
-                        Ok(())
-                    );
-                }
-                assert!(rt; back.values.as_slice() == coeffs.values.as_slice());
-                assert!(rt; r.take(8).is_err());
+                pass_through_bits(&rt, rt.alloc(), &geom, &flags, &coeffs)?;
             }
         }
     }
     Ok(())
+}
+
+#[test]
+fn the_greatest_frame_is_written_and_read(rt: HostRuntime) -> Result<(), Fail> {
+    let geom = layout(&rt, rt.alloc(), 512, 256, 3);
+    let flags = flags_of(rt.alloc(), geom.blocks(), 1_572_864)?;
+    let coeffs = coeffs_of(rt.alloc(), geom.blocks(), &[(1_572_863, 63, -580)])?;
+    pass_through_bits(&rt, rt.alloc(), &geom, &flags, &coeffs)
 }

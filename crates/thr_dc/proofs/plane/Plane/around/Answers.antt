@@ -1,9 +1,10 @@
-use Rattle.std.proofs.Common.{◌≡◌, ◌∙◌, ◌+◌, ◌%◌, ◌<◌, ◌&&◌, nat_lt, nat_le, Bool, true, false, take, arith, ap, refl, sym}
+use Rattle.std.proofs.Common.{◌≡◌, ◌∙◌, ◌+◌, ◌-◌, ◌%◌, ◌/◌, ◌<◌, ◌&&◌, nat_lt, nat_le, Bool, true, false, take, arith, ap, refl, sym}
 use Rattle.std.proofs.lemmas.Bool.Decides.{nat_tests}
 use Rattle.vid_geom.specs.CodedOrder.{block_columns, block_rows}
 use Rattle.thr_dc.specs.Prediction.{around}
 use Rattle.thr_dc.specs.Walks.{blocks_of}
-use Rattle.thr_dc.proofs.PlaneLemmas.{plane_long, some_column}
+use Rattle.thr_dc.specs.Planes.{IsAlong}
+use Rattle.thr_dc.proofs.PlaneLemmas.{along_below, along_here, along_left, along_right, plane_long, some_column}
 use Rattle.thr_dc.proofs.PredictionLemmas.{around_at}
 use Rattle.thr_dc.proofs.plane.Plane.around.Goals.{then-has_left, else-has_left, then-has_below, else-has_below}
 use Rattle.thr_dc.proofs.plane.Plane.around.Goals as goal
@@ -35,5 +36,16 @@ returns-clause-value c =
       | then-has_below x ↦ and_then c.if-has_below.neighbour at_below at_right (grind (arith, nat_tests)) x.neighbour-is
       | else-has_below x ↦ and_else c.if-has_below.neighbour at_below at_right (grind (arith, nat_tests)) x.neighbour-is
     ] in
-    rw (c.from_neighbours.ensures.value, c.neighbour.ensures, c.neighbour-2.ensures, c.neighbour-3.ensures, c.neighbour-4.ensures, c.saturating_sub.ensures, c.saturating_sub-2.ensures, c.saturating_sub-below.ensures, lower_left, lower_right) (sym found)
+    let here : IsAlong w place (place % w) (place / w) = along_here w place (omega arith) in
+    let left : at_left ≡ true → IsAlong w (place - 1) (place % w - 1) (place / w) = λ e. along_left w place (place % w) (place / w) (grind (arith, nat_tests, e)) here in
+    let below : at_below ≡ true → IsAlong w (place - w) (place % w) (place / w - 1) = λ e. along_below w place (place % w) (place / w) (grind (arith, nat_tests, e)) here in
+    let left_below : (at_left && at_below) ≡ true → IsAlong w (place - w - 1) (place % w - 1) (place / w - 1) =
+    λ e. along_left w (place - w) (place % w) (place / w - 1) (grind (arith, nat_tests, e)) (below (grind (arith, nat_tests, e))) in
+    let right_below : (at_below && at_right) ≡ true → IsAlong w (place - w + 1) (place % w + 1) (place / w - 1) =
+    λ e. along_right w (place - w) (place % w) (place / w - 1) (grind (arith, nat_tests, e)) (below (grind (arith, nat_tests, e))) in
+    let from_left = (rw (c.saturating_sub-left.ensures) at c.neighbour.ensures (place - 1)) left in
+    let from_left_below = (rw (c.saturating_sub-left.ensures, c.saturating_sub-below.ensures, lower_left) at c.neighbour-2.ensures (place - w - 1)) left_below in
+    let from_below = (rw (c.saturating_sub-below.ensures) at c.neighbour-3.ensures (place - w)) below in
+    let from_right_below = (rw (c.saturating_sub-below.ensures, lower_right) at c.neighbour-4.ensures (place - w + 1)) right_below in
+    rw (c.from_neighbours.ensures.value, from_left, from_left_below, from_below, from_right_below) (sym found)
     ∙ ap (λ w. around w (take place blocks) c.args.kind) plane.is_plane.columns_are

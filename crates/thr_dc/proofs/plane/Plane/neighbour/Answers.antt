@@ -1,0 +1,14 @@
+use Rattle.std.proofs.Common.{◌∙◌, ◌<◌, ap}
+use Rattle.vid_geom.specs.CodedOrder.{block_columns, block_rows, place_of, plane_blocks}
+use Rattle.thr_dc.specs.Planes.{IsAlong}
+use Rattle.thr_dc.proofs.PlaneLemmas.{along_block, along_within}
+use Rattle.thr_dc.proofs.plane.Plane.neighbour.Goals as goal
+
+pub returns-then-there : goal.returns-then-there
+returns-then-there c = λ place there.
+    let plane = c.args.self.now in
+    let s = plane.geom.now in
+    let along : IsAlong (block_columns s plane.pli) place c.args.column c.args.row = rw (← plane.is_plane.columns_are) (there c.if-there.true) in
+    let within : place < plane_blocks s plane.pli = along_within (block_columns s plane.pli) (block_rows s plane.pli) place c.args.column c.args.row (c.requires.row c.if-there.true) along in
+    rw c.if-there.true
+    (c.counted_at.ensures place within (c.coded_place_at.ensures.value ∙ ap (place_of s) (along_block s plane.pli place c.args.column c.args.row along)))
