@@ -3,9 +3,9 @@ ghost use Rattle.std.specs.Prelude.{◌≡◌, ◌-◌, ◌<◌, ◌≤◌, ◌+
 ghost use Rattle.std.specs.List.{All};
 ghost use Rattle.vid_base.specs.Arithmetic.{bit_length};
 ghost use Rattle.vid_base.specs.Bits.{digits};
-ghost use Rattle.vid_base.specs.Items.{all_digits, items};
-ghost use Rattle.thr_quant.specs.Ranges.{AreWhole, IsMatrixCount, NameMatrices, list_bits, range_bits, ranges_bits, ranges_of};
-ghost use Rattle.thr_quant.specs.Ramps.{base_matrix_of, matrices_bits, matrices_of, matrix_list_bits, pair_bits, pair_of, pairs_bits, pairs_of, ramps_bits, ramps_of, scales_bits, scales_of};
+ghost use Rattle.vid_base.specs.Items.{all_digits};
+ghost use Rattle.thr_quant.specs.Ranges.{AreWhole, IsMatrixCount, NameMatrices, list_bits, range_bits, ranges_bits};
+ghost use Rattle.thr_quant.specs.Ramps.{matrices_bits, matrix_list_bits, pair_bits, pairs_bits, ramps_bits, ramps_of, scales_bits};
 ghost use Rattle.thr_quant.specs.Limits.{limits_bits, limits_of};
 
 use crate::laws::{limits_fit_a_header, quantisers_fit_a_header};

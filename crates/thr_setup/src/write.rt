@@ -1,7 +1,7 @@
 // Writing a setup header (Theora I, 6.4.5).
-ghost use Rattle.std.specs.Prelude.{◌≡◌, ℕ, ◌+◌, ◌≤◌, ◌++◌, Bool, List, Ok, OnOk, OnErr, IfOk, length, vec_len, vec_capacity};
+ghost use Rattle.std.specs.Prelude.{◌≡◌, ℕ, ◌+◌, ◌≤◌, ◌++◌, List, Ok, OnOk, OnErr, IfOk, length, vec_len, vec_capacity};
 ghost use Rattle.vid_base.specs.Bits.{bits_of};
-ghost use Rattle.thr_setup.specs.Setup.{bytes_of, contents, fields_bits, fields_of, filled, packet_of, setup_of};
+ghost use Rattle.thr_setup.specs.Setup.{bytes_of, contents, fields_bits, filled, packet_of, setup_of};
 
 use crate::Setup;
 use crate::laws::setup_fits_a_header;

@@ -1,5 +1,4 @@
 use Rattle.std.proofs.Common.{rules, ◌≡◌, length, vec_len}
-use Rattle.thr_quant.specs.Ranges.{IsMatrixCount}
 use Rattle.thr_quant.proofs.laws.quantisers_fit_a_header.Goals as goal
 
 pub returns : goal.returns
