@@ -57,6 +57,13 @@ impl Clone for Forest {
     }
 }
 
+/// A forest is 80 trees that a setup header can hold.
+pub fn trees_fit_a_header(forest: &Forest)
+    ensures { IsForest forest.now }
+{
+    let _ = &forest.books;
+}
+
 // 80 trees, one behind the other.
 fn read_trees(alloc: Global, r: &mut BitReader) -> Result<Forest, Refusal>
     ensures value { GivesOrNoMem (λ forest. forest) result r.new.left (forest_at r.old.left) }

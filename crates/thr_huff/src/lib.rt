@@ -12,7 +12,7 @@ mod laws;
 mod tree;
 
 pub use code::Code;
-pub use forest::{Forest, read_forest, write_forest};
+pub use forest::{Forest, read_forest, trees_fit_a_header, write_forest};
 pub use laws::{tokens_read_from_the_front, trees_of_a_header};
 pub use tree::Tree;
 

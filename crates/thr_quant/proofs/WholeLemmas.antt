@@ -30,8 +30,8 @@ width-fits k xs few small =
       All-weaker (λ v. v ≤ fold max 0 xs) (λ v. v < 2 ^ bit_length (fold max 0 xs)) (λ v h. omega (arith, h, length_above (fold max 0 xs) word)) xs (upto_greatest 0 xs).1,
     )
 
-pub limits-back : (limits : List ℕ) (rest : List Bool) → IsLimits limits → limits_of (limits_bits limits ++ rest) ≡ Ok (limits, rest)
-limits-back limits rest is =
+pub limits_back : (limits : List ℕ) (rest : List Bool) → IsLimits limits → limits_of (limits_bits limits ++ rest) ≡ Ok (limits, rest)
+limits_back limits rest is =
     let width = width-fits 7 limits (omega arith) is.small in
     limits_of-limits_bits limits rest is.count (omega (arith, width.0)) width.1
 
@@ -70,8 +70,8 @@ pairs-back n intra inter rest few f g =
     (λ after. pair_of-inter n inter_y cb inter_cb after (λ _ _ more. one-back n 1 blank inter more few (omega arith) g))
     (λ after. pair_of-inter n inter_cb cr inter_cr after (λ _ _ more. one-back n 2 blank inter more few (omega arith) g))
 
-pub ramps-back : (ramps : Ramps) (rest : List Bool) → IsRamps ramps → ramps_of (ramps_bits ramps ++ rest) ≡ Ok (ramps, rest)
-ramps-back ramps rest is =
+pub ramps_back : (ramps : Ramps) (rest : List Bool) → IsRamps ramps → ramps_of (ramps_bits ramps ++ rest) ≡ Ok (ramps, rest)
+ramps_back ramps rest is =
     ramps_of-ramps_bits ramps (length ramps.matrices) ramps.matrices rest refl refl
     (λ after. scales-back ramps.ac after is.ac) (λ after. scales-back ramps.dc after is.dc)
     (λ after. matrices-back ramps.matrices after is.count is.matrices)

@@ -13,7 +13,9 @@ mod ramps;
 mod ranges;
 mod write;
 
-pub use laws::{limits_of_a_header, quantisers_of_a_header};
+pub use laws::{
+    limits_fit_a_header, limits_of_a_header, quantisers_fit_a_header, quantisers_of_a_header,
+};
 pub use limits::{Limits, read_limits};
 pub use ramps::{Ramps, read_ramps};
 pub use ranges::{Range, Ranges};

@@ -1,5 +1,5 @@
 // 64 numbers of equal width, one behind the other.
-ghost use Rattle.std.specs.Prelude.{◌≡◌, ℕ, ◌^◌, ◌<◌, ◌≤◌, ◌++◌, length, Bool, List, OnOk, OnErr, IfOk};
+ghost use Rattle.std.specs.Prelude.{◌≡◌, ℕ, ◌^◌, ◌<◌, ◌≤◌, ◌++◌, Bool, List, OnOk, OnErr, IfOk};
 ghost use Rattle.std.specs.List.{All};
 ghost use Rattle.vid_base.specs.Items.{items, all_digits};
 ghost use Rattle.vid_base.specs.Reading.{GivesOrEnded, SameEnd, field};
@@ -50,7 +50,6 @@ pub fn put_bytes(w: &mut BitWriter, numbers: &[u8], width: u32) -> Result<(), No
 // The least width in bits that holds all of these numbers.
 pub fn width_of_bytes(numbers: &[u8; 64]) -> u32
     ensures value { result ≡ width_of numbers.now }
-    ensures long { length numbers.now ≡ 64 }
     ensures small { All (λ v. v < 2 ^ result) numbers.now }
     ensures least { (k : ℕ) → All (λ v. v < 2 ^ k) numbers.now → result ≤ k }
 {
@@ -77,7 +76,6 @@ pub fn put_words(w: &mut BitWriter, numbers: &[u16], width: u32) -> Result<(), N
 // The least width in bits that holds all of these numbers.
 pub fn width_of_words(numbers: &[u16; 64]) -> u32
     ensures value { result ≡ width_of numbers.now }
-    ensures long { length numbers.now ≡ 64 }
     ensures bound { result ≤ 16 }
     ensures small { All (λ v. v < 2 ^ result) numbers.now }
     ensures least { (k : ℕ) → All (λ v. v < 2 ^ k) numbers.now → result ≤ k }

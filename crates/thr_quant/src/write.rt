@@ -3,11 +3,12 @@ ghost use Rattle.std.specs.Prelude.{◌≡◌, ◌-◌, ◌<◌, ◌≤◌, ◌+
 ghost use Rattle.std.specs.List.{All};
 ghost use Rattle.vid_base.specs.Arithmetic.{bit_length};
 ghost use Rattle.vid_base.specs.Bits.{digits};
-ghost use Rattle.vid_base.specs.Items.{all_digits, items};
-ghost use Rattle.thr_quant.specs.Ranges.{AreWhole, IsMatrixCount, NameMatrices, list_bits, range_bits, ranges_bits, ranges_of};
-ghost use Rattle.thr_quant.specs.Ramps.{base_matrix_of, matrices_bits, matrices_of, matrix_list_bits, pair_bits, pair_of, pairs_bits, pairs_of, ramps_bits, ramps_of, scales_bits, scales_of};
+ghost use Rattle.vid_base.specs.Items.{all_digits};
+ghost use Rattle.thr_quant.specs.Ranges.{AreWhole, IsMatrixCount, NameMatrices, list_bits, range_bits, ranges_bits};
+ghost use Rattle.thr_quant.specs.Ramps.{matrices_bits, matrix_list_bits, pair_bits, pairs_bits, ramps_bits, ramps_of, scales_bits};
 ghost use Rattle.thr_quant.specs.Limits.{limits_bits, limits_of};
 
+use crate::laws::{limits_fit_a_header, quantisers_fit_a_header};
 use crate::numbers::{put_bytes, put_words, width_of_bytes, width_of_words};
 use crate::ranges::LAST;
 use crate::{Limits, Ramps, Range, Ranges};
@@ -15,13 +16,13 @@ use vid_base::{BitWriter, NoMem, ilog};
 
 /// Writes limits in the least width that holds all of them, 0 bits where all are 0 (Theora I, 6.4.1). After `NoMem` the bits
 /// that were there are followed by some others.
-#[tactic(auto, unfolding(crate::specs::Limits::limits_bits))]
+#[tactic(auto, using(crate::proofs::WholeLemmas::limits_back), unfolding(crate::specs::Limits::limits_bits))]
 pub fn write_limits(w: &mut BitWriter, limits: &Limits) -> Result<(), NoMem>
     ensures written { OnOk result (w.new ≡ w.old ++ limits_bits limits.now.of) }
     ensures memory { OnErr result ((more : List Bool) × (w.new ≡ w.old ++ more)) }
-    ensures reads_back { OnOk result ((rest : List Bool) →
-        limits_of (limits_bits limits.now.of ++ rest) ≡ Ok (limits.now.of, rest)) }
+    ensures reads_back { (rest : List Bool) → limits_of (limits_bits limits.now.of ++ rest) ≡ Ok (limits.now.of, rest) }
 {
+    limits_fit_a_header(limits);
     let width = width_of_bytes(&limits.of);
     w.put(width, 3)?;
     put_bytes(w, &limits.of, width)
@@ -32,8 +33,6 @@ pub fn write_limits(w: &mut BitWriter, limits: &Limits) -> Result<(), NoMem>
 fn write_scales(w: &mut BitWriter, scales: &[u16; 64]) -> Result<(), NoMem>
     ensures written { OnOk result (w.new ≡ w.old ++ scales_bits scales.now) }
     ensures memory { OnErr result ((more : List Bool) × (w.new ≡ w.old ++ more)) }
-    ensures reads_back { OnOk result ((rest : List Bool) →
-        scales_of (scales_bits scales.now ++ rest) ≡ Ok (scales.now, rest)) }
 {
     let width = width_of_words(scales).max(1);
     w.put(width - 1, 4)?;
@@ -87,8 +86,6 @@ fn write_ranges(w: &mut BitWriter, count: u32, ranges: &Ranges) -> Result<(), No
     requires named { NameMatrices count ranges.now }
     ensures written { OnOk result (w.new ≡ w.old ++ ranges_bits count ranges.now) }
     ensures memory { OnErr result ((more : List Bool) × (w.new ≡ w.old ++ more)) }
-    ensures reads_back { OnOk result ((rest : List Bool) →
-        ranges_of count (ranges_bits count ranges.now ++ rest) ≡ Ok (ranges.now, rest)) }
 {
     write_matrix_index(w, count, ranges.start)?;
     write_list(w, count, &ranges.list)
@@ -101,8 +98,6 @@ fn write_intra(w: &mut BitWriter, count: u32, before: &Ranges, own: &Ranges) -> 
     requires named { NameMatrices count own.now }
     ensures written { OnOk result (w.new ≡ w.old ++ pair_bits count before.now None own.now) }
     ensures memory { OnErr result ((more : List Bool) × (w.new ≡ w.old ++ more)) }
-    ensures reads_back { OnOk result ((rest : List Bool) →
-        pair_of count before.now None (pair_bits count before.now None own.now ++ rest) ≡ Ok (own.now, rest)) }
 {
     if own == before {
         return w.put(0, 1);
@@ -124,9 +119,6 @@ fn write_inter(
     requires named { NameMatrices count own.now }
     ensures written { OnOk result (w.new ≡ w.old ++ pair_bits count before.now (Some intra.now) own.now) }
     ensures memory { OnErr result ((more : List Bool) × (w.new ≡ w.old ++ more)) }
-    ensures reads_back { OnOk result ((rest : List Bool) →
-        pair_of count before.now (Some intra.now) (pair_bits count before.now (Some intra.now) own.now ++ rest)
-        ≡ Ok (own.now, rest)) }
 {
     if own == intra {
         return w.put(1, 2);
@@ -142,8 +134,6 @@ fn write_inter(
 fn write_matrix(w: &mut BitWriter, matrix: &[u8; 64]) -> Result<(), NoMem>
     ensures written { OnOk result (w.new ≡ w.old ++ all_digits 8 matrix.now) }
     ensures memory { OnErr result ((more : List Bool) × (w.new ≡ w.old ++ more)) }
-    ensures reads_back { OnOk result ((rest : List Bool) →
-        base_matrix_of (all_digits 8 matrix.now ++ rest) ≡ Ok (matrix.now, rest)) }
 {
     put_bytes(w, matrix, 8)
 }
@@ -152,8 +142,6 @@ fn write_matrix(w: &mut BitWriter, matrix: &[u8; 64]) -> Result<(), NoMem>
 fn write_matrix_list(w: &mut BitWriter, matrices: &[[u8; 64]]) -> Result<(), NoMem>
     ensures written { OnOk result (w.new ≡ w.old ++ matrix_list_bits matrices.now) }
     ensures memory { OnErr result ((more : List Bool) × (w.new ≡ w.old ++ more)) }
-    ensures reads_back { OnOk result ((rest : List Bool) →
-        items base_matrix_of (length matrices.now) (matrix_list_bits matrices.now ++ rest) ≡ Ok (matrices.now, rest)) }
 {
     for matrix in matrices {
         write_matrix(w, matrix)?;
@@ -167,8 +155,6 @@ fn write_matrices(w: &mut BitWriter, matrices: &[[u8; 64]]) -> Result<(), NoMem>
     requires { IsMatrixCount (length matrices.now) }
     ensures written { OnOk result (w.new ≡ w.old ++ matrices_bits matrices.now) }
     ensures memory { OnErr result ((more : List Bool) × (w.new ≡ w.old ++ more)) }
-    ensures reads_back { OnOk result ((rest : List Bool) →
-        matrices_of (matrices_bits matrices.now ++ rest) ≡ Ok (matrices.now, rest)) }
 {
     w.put(matrices.len() as u32 - 1, 9)?;
     write_matrix_list(w, matrices)
@@ -186,8 +172,6 @@ fn write_pairs(
     requires inter { All (NameMatrices count) inter.now }
     ensures written { OnOk result (w.new ≡ w.old ++ pairs_bits count intra.now inter.now) }
     ensures memory { OnErr result ((more : List Bool) × (w.new ≡ w.old ++ more)) }
-    ensures reads_back { OnOk result ((rest : List Bool) →
-        pairs_of count (pairs_bits count intra.now inter.now ++ rest) ≡ Ok ((intra.now, inter.now), rest)) }
 {
     let [intra_y, intra_cb, intra_cr] = intra;
     let [inter_y, inter_cb, inter_cr] = inter;
@@ -202,13 +186,13 @@ fn write_pairs(
 /// Writes quantisers (Theora I, 6.4.2): scales in the least width that holds all of them, and for each kind of block and
 /// plane behind the first a copy where its ranges are those of the same plane's intra blocks or of the pair before. After
 /// `NoMem` the bits that were there are followed by some others.
-#[tactic(auto, unfolding(crate::specs::Ramps::ramps_bits))]
+#[tactic(auto, using(crate::proofs::WholeLemmas::ramps_back), unfolding(crate::specs::Ramps::ramps_bits))]
 pub fn write_ramps(w: &mut BitWriter, ramps: &Ramps) -> Result<(), NoMem>
     ensures written { OnOk result (w.new ≡ w.old ++ ramps_bits ramps.now) }
     ensures memory { OnErr result ((more : List Bool) × (w.new ≡ w.old ++ more)) }
-    ensures reads_back { OnOk result ((rest : List Bool) →
-        ramps_of (ramps_bits ramps.now ++ rest) ≡ Ok (ramps.now, rest)) }
+    ensures reads_back { (rest : List Bool) → ramps_of (ramps_bits ramps.now ++ rest) ≡ Ok (ramps.now, rest) }
 {
+    quantisers_fit_a_header(ramps);
     write_scales(w, &ramps.ac)?;
     write_scales(w, &ramps.dc)?;
     write_matrices(w, &ramps.matrices)?;

@@ -17,7 +17,7 @@ use Rattle.thr_quant.specs.Ranges.{Ranges, AreWhole, NameMatrices}
 use Rattle.thr_quant.specs.Ramps.{AreOfPlanes, AreScales, IsBaseMatrix, IsRamps, ramps_of}
 use Rattle.thr_quant.proofs.SoundLemmas.{limits_of-sound}
 use Rattle.thr_quant.proofs.SoundRangesLemmas.{ramps_of-sound}
-use Rattle.thr_quant.proofs.WholeLemmas.{limits-back, ramps-back}
+use Rattle.thr_quant.proofs.WholeLemmas.{limits_back, ramps_back}
 use Rattle.thr_quant.proofs.FrontLemmas.{front-limits, front-ramps}
 use Rattle.thr_huff.specs.Trees.{forest_at}
 use Rattle.thr_huff.proofs.ForestLemmas.{forest_at-forest_bits}
@@ -53,10 +53,10 @@ setup-sound bytes s e =
     rw (← same) (fields-sound (bits_of (drop 7 bytes)) fields.0 fields.1)
 
 -- whatever a header can say is read back
-pub setup-back : (s : Contents) (rest : List ℕ) → IsSetup s → setup_of (packet_of s ++ rest) ≡ Ok s
-setup-back s rest is =
+pub setup_back : (s : Contents) (rest : List ℕ) → IsSetup s → setup_of (packet_of s ++ rest) ≡ Ok s
+setup_back s rest is =
     setup_of-packet s rest
-    (λ after. fields_of-fields_bits s after (λ more. limits-back s.limits more is.limits) (λ more. ramps-back s.ramps more is.ramps) (λ more. forest_at-forest_bits s.forest more is.forest))
+    (λ after. fields_of-fields_bits s after (λ more. limits_back s.limits more is.limits) (λ more. ramps_back s.ramps more is.ramps) (λ more. forest_at-forest_bits s.forest more is.forest))
 
 -- the fields are read from the front
 pub front-fields : ReadsFront fields_of

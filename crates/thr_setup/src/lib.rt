@@ -13,7 +13,7 @@ mod trees;
 mod write;
 
 pub use import::import_setup;
-pub use laws::setups_of_a_header;
+pub use laws::{setup_fits_a_header, setups_of_a_header};
 pub use setup::{Setup, read_setup};
 pub use write::write_setup;
 

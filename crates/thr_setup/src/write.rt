@@ -1,9 +1,10 @@
 // Writing a setup header (Theora I, 6.4.5).
-ghost use Rattle.std.specs.Prelude.{◌≡◌, ℕ, ◌+◌, ◌≤◌, ◌++◌, Bool, List, Ok, OnOk, OnErr, IfOk, length, vec_len, vec_capacity};
+ghost use Rattle.std.specs.Prelude.{◌≡◌, ℕ, ◌+◌, ◌≤◌, ◌++◌, List, Ok, OnOk, OnErr, IfOk, length, vec_len, vec_capacity};
 ghost use Rattle.vid_base.specs.Bits.{bits_of};
-ghost use Rattle.thr_setup.specs.Setup.{bytes_of, contents, fields_bits, fields_of, filled, packet_of, setup_of};
+ghost use Rattle.thr_setup.specs.Setup.{bytes_of, contents, fields_bits, filled, packet_of, setup_of};
 
 use crate::Setup;
+use crate::laws::setup_fits_a_header;
 use crate::setup::SETUP_NAME;
 use std::alloc::Global;
 use thr_huff::write_forest;
@@ -14,7 +15,6 @@ use vid_base::{BitWriter, NoMem};
 #[tactic(auto, unfolding(crate::specs::Setup::fields_bits))]
 fn write_fields(w: &mut BitWriter, setup: &Setup) -> Result<(), NoMem>
     ensures written { OnOk result (w.new ≡ w.old ++ fields_bits (contents setup.now)) }
-    ensures reads_back { OnOk result ((rest : List Bool) → fields_of (fields_bits (contents setup.now) ++ rest) ≡ Ok (contents setup.now, rest)) }
 {
     write_limits(w, &setup.limits)?;
     write_ramps(w, &setup.ramps)?;
@@ -24,7 +24,6 @@ fn write_fields(w: &mut BitWriter, setup: &Setup) -> Result<(), NoMem>
 // The bytes behind the name, the last filled with 0 bits.
 fn field_bytes(alloc: Global, setup: &Setup) -> Result<Vec<u8>, NoMem>
     ensures written { IfOk result (λ bytes. bits_of bytes.items ≡ filled (fields_bits (contents setup.now))) }
-    ensures reads_back { OnOk result ((rest : List Bool) → fields_of (fields_bits (contents setup.now) ++ rest) ≡ Ok (contents setup.now, rest)) }
 {
     let mut w = BitWriter::new(alloc);
     write_fields(&mut w, setup)?;
@@ -44,11 +43,13 @@ fn add(out: &mut Vec<u8>, bytes: &[u8])
 
 /// Appends the packet of a setup header that says this, its last byte filled with 0 bits (Theora I, 6.4.5). After `NoMem` the
 /// bytes are those that were there.
+#[tactic(auto, using(crate::proofs::SetupLemmas::setup_back))]
 pub fn write_setup(setup: &Setup, out: &mut Vec<u8>) -> Result<(), NoMem>
     ensures written { OnOk result (out.new.items ≡ out.old.items ++ packet_of (contents setup.now)) }
     ensures memory { OnErr result (out.new.items ≡ out.old.items) }
-    ensures reads_back { OnOk result ((rest : List ℕ) → setup_of (packet_of (contents setup.now) ++ rest) ≡ Ok (contents setup.now)) }
+    ensures reads_back { (rest : List ℕ) → setup_of (packet_of (contents setup.now) ++ rest) ≡ Ok (contents setup.now) }
 {
+    setup_fits_a_header(setup);
     let fields = field_bytes(*out.allocator(), setup)?;
     out.try_reserve(SETUP_NAME.len() + fields.len())?;
     add(out, &SETUP_NAME);

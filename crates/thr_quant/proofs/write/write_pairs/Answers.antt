@@ -1,5 +1,5 @@
 use Rattle.std.proofs.lemmas.Result.{on_ok_weaker, on_err_weaker}
-use Rattle.thr_quant.proofs.PairsLemmas.{three-is, pairs-memory, pairs-written, pairs_of-pairs_bits}
+use Rattle.thr_quant.proofs.PairsLemmas.{three-is, pairs-memory, pairs-written}
 use Rattle.thr_quant.proofs.write.write_pairs.Goals as goal
 
 pub returns-clause-written : goal.returns-clause-written
@@ -20,14 +20,3 @@ returns-clause-memory c =
     (c.in_ok-write_ranges.ensures {u = tt}).written (c.in_ok-write_intra.ensures {u = tt}).written (c.in_ok-write_intra-2.ensures {u = tt}).written
     (c.in_ok-write_inter.ensures {u = tt}).written (c.in_ok-write_inter-2.ensures {u = tt}).written)
     c.write_inter-3.ensures.memory
-
-pub returns-clause-reads_back : goal.returns-clause-reads_back
-returns-clause-reads_back c =
-    on_ok_weaker c.write_inter-3.result
-    (λ back rest.
-    pairs_of-pairs_bits c.args.count c.args.intra.now c.args.inter.now _ _ _ _ _ _ rest
-    (three-is c.args.intra.now c.index-intra-0.result c.index-intra-1.result c.index-intra-2.result c.type_inv.intra)
-    (three-is c.args.inter.now c.index-inter-0.result c.index-inter-1.result c.index-inter-2.result c.type_inv.inter)
-    (c.in_ok-write_ranges.ensures {u = tt}).reads_back (c.in_ok-write_intra.ensures {u = tt}).reads_back (c.in_ok-write_intra-2.ensures {u = tt}).reads_back
-    (c.in_ok-write_inter.ensures {u = tt}).reads_back (c.in_ok-write_inter-2.ensures {u = tt}).reads_back back)
-    c.write_inter-3.ensures.reads_back
