@@ -1,0 +1,6 @@
+pub mod CellLemmas
+pub mod PictureLemmas
+pub mod PaintLemmas
+pub mod BorderLemmas
+pub mod PlaneLemmas
+pub mod WindowLemmas
