@@ -53,7 +53,7 @@ inner-set w h b x y v size hx hy =
           let at : cell w (i + 16) (j + 16) ≡ cell w (x + 16) (y + 16) = rw (same.0, same.1) refl in
           get_or-set_at b (cell w (x + 16) (y + 16)) (cell w (i + 16) (j + 16)) v 0 at within ∙ sym (get_or-set_at (inner w h b) (y * w + x) (j * w + i) v 0 e place))
       | inr ne ↦ (let far : cell w (i + 16) (j + 16) ≢ cell w (x + 16) (y + 16) = places_apart (w + 32) (x + 16) (y + 16) (i + 16) (j + 16) (omega arith) (omega arith)
-            (λ ex ey. let fx : i ≡ x = omega arith in let fy : j ≡ y = omega arith in ne (rw (fx, fy) refl)) in
+          (λ ex ey. let fx : i ≡ x = omega arith in let fy : j ≡ y = omega arith in ne (rw (fx, fy) refl)) in
           get_or-set_other b (cell w (x + 16) (y + 16)) (cell w (i + 16) (j + 16)) v 0 far ∙ sym (get_or-inner w h b i j hi hj) ∙ sym (get_or-set_other (inner w h b) (y * w + x) (j * w + i) v 0 ne))
     ])
 
@@ -120,6 +120,18 @@ written_step w b c at next rows k below is e = ap (all_written w b at) (drop-con
 pub written_last : (w : ℕ) (b : List ℕ) (at : ℕ) (rows : List (List ℕ)) (k : ℕ) → length rows ≤ k → all_written w b at (drop k rows) ≡ b
 unfolding all_written
 written_last w b at rows k past = ap (all_written w b at) (drop_all k rows past)
+
+-- what holds of eight numbers
+pub each_of_eight : (P : ℕ → Type 0) (n : ℕ) → n ≡ 8 → P 0 → P 1 → P 2 → P 3 → P 4 → P 5 → P 6 → P 7 → (k : ℕ) → k < n → P k
+each_of_eight P n e a b c d f g h i zero l = a
+each_of_eight P n e a b c d f g h i (suc zero) l = b
+each_of_eight P n e a b c d f g h i (suc (suc zero)) l = c
+each_of_eight P n e a b c d f g h i (suc (suc (suc zero))) l = d
+each_of_eight P n e a b c d f g h i (suc (suc (suc (suc zero)))) l = f
+each_of_eight P n e a b c d f g h i (suc (suc (suc (suc (suc zero))))) l = g
+each_of_eight P n e a b c d f g h i (suc (suc (suc (suc (suc (suc zero)))))) l = h
+each_of_eight P n e a b c d f g h i (suc (suc (suc (suc (suc (suc (suc zero))))))) l = i
+each_of_eight P n e a b c d f g h i (suc (suc (suc (suc (suc (suc (suc (suc k)))))))) l = absurd (omega arith)
 
 -- what is put into a list of the same length is all of it
 pub whole_again : (c b : List ℕ) (n : ℕ) → length c ≡ n → take n (c ++ drop (length c) b) ≡ c

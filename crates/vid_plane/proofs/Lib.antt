@@ -4,3 +4,4 @@ pub mod PaintLemmas
 pub mod BorderLemmas
 pub mod PlaneLemmas
 pub mod WindowLemmas
+pub mod FrameLemmas

@@ -136,7 +136,7 @@ Paints-with_rows p x y n (row ∷ rows) size each hx hy =
     let m : 1 + length rows ≡ suc (length rows) = omega arith in
     let first : Paints p q x y n 1 f = Paints-by p q x y n 1 (λ u _. get_or row u 0) f (rw er at whole) (λ u v hu hv. let e : 0 ≡ v = omega arith in ap (λ k. get_or (get_or (row ∷ rows) k []) u 0) e) in
     let rest : Paints q (with_rows q x (y + 1) rows) x (y + 1) n (length rows) (λ u v. get_or (get_or rows v []) u 0) =
-        Paints-with_rows q x (y + 1) n rows (omega arith) (λ k h. each (suc k) (omega arith)) (omega arith) (omega arith) in
+    Paints-with_rows q x (y + 1) n rows (omega arith) (λ k h. each (suc k) (omega arith)) (omega arith) (omega arith) in
     rw m at (Paints-on p q (with_rows q x (y + 1) rows) x y n 1 (length rows) f (λ u v. get_or (get_or rows v []) u 0) first rest
     (λ u v hu hv. let e : suc v ≡ 1 + v = omega arith in ap (λ k. get_or (get_or (row ∷ rows) k []) u 0) e) (omega arith) (omega arith))
 

@@ -31,7 +31,7 @@ row_is w h b s p y n at e plane en hy place =
     let fits : at + n ≤ length b = omega (arith, run_within w h 16 (y + 16) n (omega (arith, plane.wide)) (omega arith) (omega arith), plane.size) in
     fill_by_all (λ k. pixel p (0 + k) y) (take n (drop at b)) p.width 0 (search (arith, places))
     (λ k below. let i : get_or (take n (drop at b)) k 0 ≡ get_or b (at + k) 0 = search (arith, places) in
-        i ∙ sample_is w h b s p (0 + k) y (at + k) e (omega arith) hy (omega arith))
+    i ∙ sample_is w h b s p (0 + k) y (at + k) e (omega arith) hy (omega arith))
 
 pub place_within : (w h : ℕ) (b : List ℕ) (s : Bool) (p : Picture) (x y at : ℕ) → shown w h b s ≡ p → IsPlane w h b s → x < p.width → y < p.height → at ≡ cell w (x + 16) (y + 16) → at < length b
 place_within w h b s p x y at e plane hx hy place =

@@ -79,7 +79,8 @@ pub(crate) fn put(buffer: &mut [u8], at: usize, samples: &[u8])
 /// Writes eight samples from that place on.
 pub(crate) fn put_eight(buffer: &mut [u8], at: usize, row: &[u8; 8])
     requires { at + 8 ≤ length buffer.old }
-    ensures { buffer.new ≡ written buffer.old at row.now }
+    ensures value { buffer.new ≡ written buffer.old at row.now }
+    ensures eight { length row.now ≡ 8 }
 {
     buffer[at..at + 8].copy_from_slice(row);
 }

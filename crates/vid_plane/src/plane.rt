@@ -220,6 +220,9 @@ impl Plane {
         requires row { row < self.now.height + 32 }
         ensures { result ≡ map (λ k. pixel self.now (nearest (column + k) self.now.width) (nearest row self.now.height)) (range_with_len 0 8) }
     {
-        eight(self.buffer.as_slice(), place_from_corner(self.width, column, row))
+        eight(
+            self.buffer.as_slice(),
+            place_from_corner(self.width, column, row),
+        )
     }
 }

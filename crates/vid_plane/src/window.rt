@@ -15,6 +15,8 @@ pub struct Window<'a> {
     ghost sealed: { plane.now.sealed ≡ true },
     ghost across: { column ≤ plane.now.width + 24 },
     ghost upwards: { row ≤ plane.now.height + 24 },
+    ghost narrow: { column ≤ 1048584 },
+    ghost short: { row ≤ 1048584 },
 }
 
 /// A coordinate, counted from 16 before the plane's first.

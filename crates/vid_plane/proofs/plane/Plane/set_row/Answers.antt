@@ -16,6 +16,6 @@ returns-clause-value c =
 pub returns-clause-paints : goal.returns-clause-paints
 returns-clause-paints c =
     let of_row : Paints c.args.self.now (with_row c.args.self.now 0 c.args.y c.args.row.now) 0 c.args.y (length c.args.row.now) 1 (λ u _. get_or c.args.row.now u 0) =
-        Paints-with_row c.args.self.now 0 c.args.y c.args.row.now (picture_is _ _ _ _ c.args.self.now c.self.view_is c.self.invariant).whole (omega (arith, c.requires.size)) c.requires.row in
+    Paints-with_row c.args.self.now 0 c.args.y c.args.row.now (picture_is _ _ _ _ c.args.self.now c.self.view_is c.self.invariant).whole (omega (arith, c.requires.size)) c.requires.row in
     let of_width = subst (λ (n : ℕ). Paints c.args.self.now (with_row c.args.self.now 0 c.args.y c.args.row.now) 0 c.args.y n 1 (λ u _. get_or c.args.row.now u 0)) c.requires.size of_row in
     subst (λ (q : Picture). Paints c.args.self.now q 0 c.args.y c.args.self.now.width 1 (λ u _. get_or c.args.row.now u 0)) (sym (returns-clause-value c)) of_width
