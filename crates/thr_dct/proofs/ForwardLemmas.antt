@@ -8,8 +8,8 @@ use Rattle.std.proofs.lemmas.List.FromFn.{fill_by_all, get_or-map-range_with_len
 use Rattle.thr_dct.specs.Line.{entry, Within}
 use Rattle.thr_dct.specs.Forward.{basis, over_eight, double_sum, scaled_down, forward_of}
 use Rattle.thr_dct.specs.Passes.{sum_by_row, sums, summed_rows}
-use Rattle.thr_dct.proofs.BasisLemmas.{mul_add}
-use Rattle.thr_dct.proofs.SumsLemmas.{sum_within}
+use Rattle.thr_dct.proofs.SpreadLemmas.{mul_add}
+use Rattle.thr_dct.proofs.EndsLemmas.{sum_within}
 
 pub same_numbers : (xs ys : List ℤ) → length xs ≡ 64 → length ys ≡ 64 → ((k : ℕ) → k < 64 → entry xs k ≡ entry ys k) → xs ≡ ys
 same_numbers xs ys long also_long same =

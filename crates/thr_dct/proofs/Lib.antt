@@ -1,6 +1,7 @@
+pub mod Casts
 mod ProductLemmas
 mod SumLemmas
 mod PassLemmas
-mod BasisLemmas
-mod SumsLemmas
+mod SpreadLemmas
+mod EndsLemmas
 mod ForwardLemmas

@@ -1,4 +1,6 @@
 // The inverse transform of one line of eight numbers (Theora I, 7.9.3.1).
+#![tactic(auto, using(crate::proofs::Casts::casts))]
+
 ghost use Rattle.std.specs.Prelude.{◌≡◌, ℤ, pos, ◌+ℤ◌, ◌-ℤ◌, ◌<◌, ◌^◌};
 ghost use Rattle.thr_dct.specs.Line.{m, cut, c1, c2, c3, c4, c5, c6, c7, line, Within};
 

@@ -1,7 +1,7 @@
 use Rattle.std.proofs.Common.{arith, ◌+◌, ◌*◌, ℕ}
 use Rattle.std.proofs.lemmas.Int.{to_z-of_z}
 use Rattle.thr_dct.specs.Line.{entry}
-use Rattle.thr_dct.proofs.SumsLemmas.{sums_by_ends}
+use Rattle.thr_dct.proofs.EndsLemmas.{sums_by_ends}
 use Rattle.thr_dct.proofs.sums.sums_of_row.Goals as goal
 
 pub returns : goal.returns

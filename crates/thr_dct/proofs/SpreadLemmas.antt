@@ -1,5 +1,5 @@
 -- A product by a sum is the sum of the products. `forward` cites this.
-use Rattle.std.proofs.Common.{arith, refl, sym, ap, ◌∙◌, ◌≡◌, zero, suc, ◌+ℤ◌, ◌-ℤ◌, ◌*ℤ◌, ℤ, pos, negsuc}
+use Rattle.std.proofs.Common.{arith, sym, ap, ◌∙◌, ◌≡◌, zero, suc, ◌+ℤ◌, ◌-ℤ◌, ◌*ℤ◌, ℤ, pos, negsuc}
 use Rattle.std.proofs.lemmas.Int.{ints}
 use Rattle.std.proofs.Math.IntN.{suc_ℤ, pred_ℤ, suc_ℤ-*ℤ, pred_ℤ-*ℤ, zero-*ℤ}
 
@@ -19,7 +19,7 @@ down : (a x y : ℤ) → Spreads a x y → Spreads (pred_ℤ a) x y
 down a x y h = pred_ℤ-*ℤ a (x +ℤ y) ∙ ap (λ z. z -ℤ (x +ℤ y)) h ∙ less _ _ x y ∙ sym (ap (λ z. z +ℤ (pred_ℤ a *ℤ y)) (pred_ℤ-*ℤ a x) ∙ ap (λ z. a *ℤ x -ℤ x +ℤ z) (pred_ℤ-*ℤ a y))
 
 none : (x y : ℤ) → Spreads (pos 0) x y
-none x y = rw (zero-*ℤ, zero-*ℤ, zero-*ℤ) refl
+none x y = simp zero-*ℤ
 
 pub mul_add : (a x y : ℤ) → a *ℤ (x +ℤ y) ≡ a *ℤ x +ℤ a *ℤ y
 mul_add (pos zero) x y = none x y
