@@ -1,5 +1,4 @@
-// Made by checks/transform-table in C: digests of the coefficients of the drawn blocks, brought within 255, by double sums
-// of 64 bits over a table of cosines.
+// Made by checks/transform-table in C: digests of the coefficients of the drawn blocks, brought within 255.
 pub static FORWARD_DIGESTS: [u32; 240] = [
     611766707, 1676035883, 1347346015, 3811593948, 3028702820, 3917625578, 2630867445, 3877919065,
     3490346310, 370911445, 2711899994, 3468087662, 3842879814, 34647979, 157115190, 94418508,
