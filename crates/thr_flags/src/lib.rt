@@ -16,4 +16,6 @@ pub use reading::{read_long, read_long_in, read_short, read_short_in};
 pub use writing::{write_long, write_short};
 
 #[cfg(test)]
+mod flag_tests;
+#[cfg(test)]
 mod tests;
