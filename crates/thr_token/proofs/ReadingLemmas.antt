@@ -4,10 +4,9 @@ use Rattle.std.proofs.lemmas.List.{length-map}
 use Rattle.vid_base.specs.declared.shape.Shape.{Shape}
 use Rattle.vid_geom.specs.declared.block.Block.{Block}
 use Rattle.vid_geom.specs.CodedOrder.{order_of}
-use Rattle.thr_token.specs.Coefficients.{Progress, at_place, coefficients, first_place, is_luma, numbers_in, places, results_of, token_in, untouched, untouched_blocks}
+use Rattle.thr_token.specs.Coefficients.{TableNumbers, Progress, at_place, coefficients, first_place, is_luma, numbers_in, places, results_of, token_in, untouched, untouched_blocks}
 use Rattle.vid_base.specs.declared.fault.PacketFault.{PacketFault}
 use Rattle.thr_huff.specs.CodeTree.{CodeTree}
-use Rattle.thr_token.specs.declared.trees.TableNumbers.{TableNumbers}
 use Rattle.thr_token.specs.Listing.{IsListing, blocks_by, listed, places_in}
 use Rattle.thr_token.specs.Standing.{lumas_of, standing}
 use Rattle.thr_token.proofs.ListingLemmas.{first_listed, length-places_in}

@@ -6,11 +6,9 @@ use Rattle.thr_huff.specs.CodeTree.{CodeTree}
 use Rattle.thr_huff.specs.Codes.{codes_at, code_of}
 use Rattle.thr_huff.specs.Rows.{IsFullRow}
 use Rattle.thr_token.specs.declared.token.Token.{Token}
-use Rattle.thr_token.specs.declared.trees.TableNumbers.{TableNumbers}
-use Rattle.thr_token.specs.declared.writing.Part.TheVariants.{Dc, Ac}
-use Rattle.thr_token.specs.Coefficients.{group_of}
+use Rattle.thr_token.specs.Coefficients.{TableNumbers, group_of}
 use Rattle.thr_token.specs.Tokenised.{IsToken}
-use Rattle.thr_token.specs.WrittenTokens.{IsHeld, code_for, numbers_of, same_tables}
+use Rattle.thr_token.specs.WrittenTokens.{Dc, Ac, IsHeld, code_for, numbers_of, same_tables}
 
 -- there are five groups
 few_groups : (place : ℕ) → group_of place < 5

@@ -2,7 +2,7 @@
 use Rattle.std.proofs.Common.{◌≡◌, ℕ, zero, suc, ◌+◌, ◌≤◌, Bool, true, false, cond, nat_eq, List, [], ◌∷◌, ◌++◌, Result, Ok, Err, refl, ap, subst, arith}
 use Rattle.vid_base.specs.declared.fault.PacketFault.{PacketFault}
 use Rattle.vid_base.specs.Reading.{◌>>=◌}
-use Rattle.thr_token.specs.declared.meaning.Meaning.{Meaning}
+use Rattle.thr_token.specs.Tokens.{Meaning}
 use Rattle.thr_token.specs.Coefficients.{Progress, Source, at_place, places, taken, turn, unended, visit}
 
 -- what an `Ok` holds

@@ -5,8 +5,7 @@ use Rattle.std.proofs.lemmas.List.{length-set}
 use Rattle.std.proofs.Math.Dec.{eqb}
 use Rattle.std.proofs.lemmas.Bool.{cases_eq, cases_lt, eq-eqb, ne_eqb, lt-ltb, le-ltb}
 use Rattle.vid_base.specs.Reading.{◌>>=◌}
-use Rattle.thr_token.specs.declared.meaning.Meaning.{Meaning}
-use Rattle.thr_token.specs.declared.meaning.Meaning.TheVariants.{EndRun, ZeroRun, Value}
+use Rattle.thr_token.specs.Tokens.{Meaning, EndRun, ZeroRun, Value}
 use Rattle.thr_token.specs.declared.token.Token.{Token}
 use Rattle.thr_token.specs.declared.run.Run.{Run}
 use Rattle.thr_token.specs.Spellings.{IsSayable}
@@ -118,7 +117,7 @@ read_behind values place read (EndRun blocks) r whole h right = record {
   ];
   behind = λ i from below. absurd (omega arith);
 }
-read_behind values place read (ZeroRun zeros) r whole h right = record {
+read_behind values place read (ZeroRun _) r whole h right = record {
   size = r.size;
   whole = λ _. whole;
   high = right.0;
@@ -221,14 +220,14 @@ telling_end whole place b lumas values at tokens run h t = record {
 -- a block of which something is said stands at a later place then
 pub moved : (values : List ℤ) (place : ℕ) (meaning : Meaning) → place < 64 → IsSayable meaning → place < place_behind place meaning
 moved values place (EndRun blocks) h says = h
-moved values place (ZeroRun zeros) h says = omega (arith, says.0)
-moved values place (Value zeros value) h says = omega arith
+moved values place (ZeroRun _) h says = omega (arith, says.0)
+moved values place (Value _ value) h says = omega arith
 
 -- and no place is past the end
 pub within : (values : List ℤ) (place : ℕ) (meaning : Meaning) → IsTrueOf values place meaning → place_behind place meaning ≤ 64
 within values place (EndRun blocks) right = omega arith
-within values place (ZeroRun zeros) right = right.0
-within values place (Value zeros value) right = omega (arith, right.0)
+within values place (ZeroRun _) right = right.0
+within values place (Value _ value) right = omega (arith, right.0)
 
 -- the places of blocks, where one block moved
 pub low_set : (place b stands : ℕ) (work : List ℕ) → ((i : ℕ) → i < length work → place ≤ get_or work i 0) → b < length work → place < stands

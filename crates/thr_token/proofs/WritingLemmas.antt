@@ -18,16 +18,12 @@ use Rattle.vid_geom.specs.CodedOrder.{order_of}
 use Rattle.thr_huff.specs.CodeTree.{CodeTree, Token as Leaf}
 use Rattle.thr_huff.proofs.ForestLemmas.{front_token-code_of}
 use Rattle.std.specs.Prelude.{slice_index_or}
-use Rattle.thr_token.specs.declared.meaning.Meaning.{Meaning}
 use Rattle.thr_token.specs.declared.token.Token.{Token}
 use Rattle.thr_token.specs.declared.token.Tables.{Tables}
-use Rattle.thr_token.specs.declared.trees.TableNumbers.{TableNumbers}
-use Rattle.thr_token.specs.declared.writing.Part.{Part}
-use Rattle.thr_token.specs.declared.writing.Part.TheVariants.{Dc, Ac}
-use Rattle.thr_token.specs.Tokens.{further_bits, meaning_of}
-use Rattle.thr_token.specs.Coefficients.{Progress, Source, at_place, coefficients, numbers_in, places, results_of, token_in, tree_of, untouched_blocks}
+use Rattle.thr_token.specs.Tokens.{Meaning, further_bits, meaning_of}
+use Rattle.thr_token.specs.Coefficients.{TableNumbers, Progress, Source, at_place, coefficients, numbers_in, places, results_of, token_in, tree_of, untouched_blocks}
 use Rattle.thr_token.specs.Tokenised.{IsToken, Tells, is_for, token_from, told}
-use Rattle.thr_token.specs.WrittenTokens.{IsHeld, code_for, codes_in, in_part, numbers_at, numbers_code, numbers_of, part_code, token_code, tokens_code, tokens_in}
+use Rattle.thr_token.specs.WrittenTokens.{Part, Dc, Ac, IsHeld, code_for, codes_in, in_part, numbers_at, numbers_code, numbers_of, part_code, token_code, tokens_code, tokens_in}
 use Rattle.thr_token.proofs.SourceLemmas.{Follows, at_place_follows, ok_same, places_follow, went_well}
 
 -- so many digits were added

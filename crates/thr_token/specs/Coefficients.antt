@@ -10,10 +10,7 @@ use Rattle.vid_geom.specs.declared.block.Block.{Block}
 use Rattle.vid_geom.specs.CodedOrder.{order_of}
 use Rattle.thr_huff.specs.CodeTree.{CodeTree}
 use Rattle.thr_huff.specs.Codes.{codes_at, front_token}
-use Rattle.thr_token.specs.declared.meaning.Meaning.{Meaning}
-use Rattle.thr_token.specs.declared.meaning.Meaning.TheVariants.{EndRun, ZeroRun, Value}
-use Rattle.thr_token.specs.declared.trees.TableNumbers.{TableNumbers}
-use Rattle.thr_token.specs.Tokens.{further_bits, meaning_of}
+use Rattle.thr_token.specs.Tokens.{Meaning, EndRun, ZeroRun, Value, further_bits, meaning_of}
 
 -- how far a block has come: whether it is one of luma, the place at which it stands (64 where it has ended), its 64
 -- coefficients so far, and its count
@@ -83,6 +80,11 @@ places next (suc n) place blocks run source = at_place next place [] blocks run 
 -- the group of a place: a frame reads each by trees of its own
 abbrev pub group_of : ℕ → ℕ
 group_of place = if place == 0 then 0 else if nat_lt place 6 then 1 else if nat_lt place 15 then 2 else if nat_lt place 28 then 3 else 4
+
+-- which tree of a group the blocks of luma take, and which the others
+pub record TableNumbers : Type 0 where
+  pub luma : ℕ
+  pub chroma : ℕ
 
 -- the tree by which a block's token is read
 abbrev pub tree_of : TableNumbers → ℕ → Bool → ℕ

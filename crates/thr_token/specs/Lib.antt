@@ -6,3 +6,4 @@ pub mod Tokenised
 pub mod WrittenTokens
 pub mod Spellings
 pub mod Telling
+pub mod Views

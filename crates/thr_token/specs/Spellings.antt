@@ -1,7 +1,6 @@
 -- Which meanings a token has (Theora I, 7.7.1 and 7.7.2).
 use Rattle.std.specs.Prelude.{ℕ, ◌<◌, ◌≤◌, ◌==◌, ◌&&◌, ◌||◌, nat_lt, Bool, IsTrue, unsigned_abs}
-use Rattle.thr_token.specs.declared.meaning.Meaning.{Meaning}
-use Rattle.thr_token.specs.declared.meaning.Meaning.TheVariants.{EndRun, ZeroRun, Value}
+use Rattle.thr_token.specs.Tokens.{Meaning, EndRun, ZeroRun, Value}
 
 -- whether one token can say so many zeros and a value of this size behind them
 abbrev pub in_one : ℕ → ℕ → Bool

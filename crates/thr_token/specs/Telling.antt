@@ -3,11 +3,9 @@
 use Rattle.std.specs.Prelude.{◌≡◌, ℕ, suc, ◌+◌, ◌-◌, ◌<◌, ◌≤◌, ℤ, pos, Bool, List, [], ◌∷◌, ◌++◌, length, get_or, slice_set, take, drop, Option, Some, None, Result}
 use Rattle.vid_base.specs.declared.fault.PacketFault.{PacketFault}
 use Rattle.vid_base.specs.Reading.{◌>>=◌}
-use Rattle.thr_token.specs.declared.meaning.Meaning.{Meaning}
-use Rattle.thr_token.specs.declared.meaning.Meaning.TheVariants.{EndRun, ZeroRun, Value}
 use Rattle.thr_token.specs.declared.token.Token.{Token}
 use Rattle.thr_token.specs.declared.run.Run.{Run}
-use Rattle.thr_token.specs.Tokens.{meaning_of}
+use Rattle.thr_token.specs.Tokens.{Meaning, EndRun, ZeroRun, Value, meaning_of}
 use Rattle.thr_token.specs.Coefficients.{Progress, at_place, places}
 use Rattle.thr_token.specs.Standing.{standing}
 use Rattle.thr_token.specs.Tokenised.{IsToken, token_from}
@@ -75,7 +73,7 @@ place_behind place (Value zeros value) = place + zeros + 1
 -- and its coefficients as they were read so far
 abbrev pub values_behind : ℕ → List ℤ → Meaning → List ℤ
 values_behind place read (EndRun blocks) = read
-values_behind place read (ZeroRun zeros) = read
+values_behind place read (ZeroRun _) = read
 values_behind place read (Value zeros value) = slice_set read (place + zeros) value
 
 -- the coefficients before the place at which a block stands were read, and the others are still 0

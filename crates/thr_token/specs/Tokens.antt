@@ -1,8 +1,13 @@
 -- Tokens: how many further bits each has, and what it says with them (Theora I, 7.7.1 and 7.7.2). token is a token's number, 0 to
 -- 31, and extra its further bits as one number, the first the highest.
 use Rattle.std.specs.Prelude.{ℕ, ◌+◌, ◌/◌, ◌%◌, ◌==◌, ℤ, pos, ◌-ℤ◌, List, [], ◌∷◌, get_or, if◌then◌else◌}
-use Rattle.thr_token.specs.declared.meaning.Meaning.{Meaning}
-use Rattle.thr_token.specs.declared.meaning.Meaning.TheVariants.{EndRun, ZeroRun, Value}
+
+-- what a token says: an end-of-block run of so many blocks (0 says all that have not ended), so many zeros, or so many zeros and
+-- a value
+pub data Meaning : Type 0 where
+  EndRun : ℕ → Meaning
+  ZeroRun : ℕ → Meaning
+  Value : ℕ → ℤ → Meaning
 
 -- how many further bits each token has
 abbrev pub widths : List ℕ
@@ -23,8 +28,7 @@ signed size sign = if sign == 1 then pos 0 -ℤ pos size else pos size
 abbrev pub valued : ℕ → ℕ → ℕ → Meaning
 valued zeros size sign = Value zeros (signed size sign)
 
--- what the tokens say, where these are their further bits: an end-of-block run of so many blocks (0 says all that have not
--- ended), so many zeros, or so many zeros and a value
+-- what the tokens say, where these are their further bits
 abbrev pub meanings : ℕ → List Meaning
 meanings extra =
     EndRun 1 ∷ EndRun 2 ∷ EndRun 3 ∷ EndRun (4 + extra) ∷ EndRun (8 + extra) ∷ EndRun (16 + extra) ∷ EndRun extra

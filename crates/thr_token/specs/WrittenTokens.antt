@@ -6,13 +6,15 @@ use Rattle.thr_huff.specs.CodeTree.{CodeTree}
 use Rattle.thr_huff.specs.Codes.{codes_at, code_of}
 use Rattle.thr_token.specs.declared.token.Token.{Token}
 use Rattle.thr_token.specs.declared.token.Tables.{Tables}
-use Rattle.thr_token.specs.declared.trees.TableNumbers.{TableNumbers}
-use Rattle.thr_token.specs.declared.writing.Part.{Part}
-use Rattle.thr_token.specs.declared.writing.Part.TheVariants.{Dc, Ac}
 use Rattle.thr_token.specs.Tokens.{further_bits}
-use Rattle.thr_token.specs.Coefficients.{tree_of}
+use Rattle.thr_token.specs.Coefficients.{TableNumbers, tree_of}
 
--- whether a place belongs to a part of the tokens: place 0 is the DC part, and the other places are the AC part
+-- the two parts of a frame's tokens, each with tables of its own: those of place 0, and those of the other places
+pub data Part : Type 0 where
+  Dc : Part
+  Ac : Part
+
+-- whether a place belongs to a part of the tokens
 abbrev pub in_part : Part → ℕ → Bool
 in_part Dc place = place == 0
 in_part Ac place = not (place == 0)

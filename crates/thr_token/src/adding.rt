@@ -4,6 +4,7 @@ ghost use Rattle.thr_token.specs.declared.token.Token.{Token};
 ghost use Rattle.thr_token.specs.Tokenised.{IsToken};
 ghost use Rattle.thr_token.specs.Spellings.{IsSayable};
 ghost use Rattle.thr_token.specs.Telling.{Adds, Answer, Ends, Steps, Told, said};
+ghost use Rattle.thr_token.specs.Views.{as_meaning};
 
 use crate::meaning::Meaning;
 use crate::run::Run;
@@ -14,8 +15,8 @@ use vid_base::NoMem;
 // A token with this meaning for a block at the place.
 fn push(tokens: &mut Vec<Token>, place: u8, luma: bool, meaning: Meaning) -> Result<(), NoMem>
     requires place { place < 64 }
-    requires meaning { IsSayable meaning }
-    ensures adds { OnOk result (Adds place luma meaning tokens.old.items tokens.new.items) }
+    requires meaning { IsSayable (as_meaning meaning) }
+    ensures adds { OnOk result (Adds place luma (as_meaning meaning) tokens.old.items tokens.new.items) }
     ensures few { OnOk result (length tokens.new.items ≡ length tokens.old.items + 1) }
 {
     let Spelling { token, extra } = spell(meaning);
@@ -75,8 +76,8 @@ pub(crate) fn add(
     meaning: Meaning,
 ) -> Result<Option<Run>, NoMem>
     requires place { place < 64 }
-    requires meaning { IsSayable meaning }
-    ensures told { IfOk result (λ held. (whole : List Token → Answer) (rest next : ℕ → List Token → Answer) → Steps place luma meaning rest next →
+    requires meaning { IsSayable (as_meaning meaning) }
+    ensures told { IfOk result (λ held. (whole : List Token → Answer) (rest next : ℕ → List Token → Answer) → Steps place luma (as_meaning meaning) rest next →
         Told whole rest tokens.old.items run → Told whole next tokens.new.items held) }
     ensures tokens { OnOk result (All IsToken tokens.old.items → All IsToken tokens.new.items) }
     ensures few { IfOk result (λ held. said tokens.new.items held ≤ said tokens.old.items run + 1) }

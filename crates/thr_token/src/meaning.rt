@@ -1,6 +1,7 @@
 // What tokens say (Theora I, 7.7.1 and 7.7.2).
 ghost use Rattle.std.specs.Prelude.{◌≡◌, ◌<◌, ◌≤◌, ◌^◌};
 ghost use Rattle.thr_token.specs.Tokens.{further_bits, meaning_of, signed, valued};
+ghost use Rattle.thr_token.specs.Views.{as_meaning};
 
 /// What a token says with its further bits.
 #[derive(Clone, Copy)]
@@ -40,7 +41,7 @@ fn signed(size: u32, sign: u32) -> i16
 // So many zeros, and then a value of this size and sign.
 fn valued(zeros: u32, size: u32, sign: u32) -> Meaning
     requires { size ≤ 580 }
-    ensures { result ≡ valued zeros size sign }
+    ensures { as_meaning result ≡ valued zeros size sign }
 {
     Meaning::Value {
         zeros,
@@ -53,7 +54,7 @@ fn valued(zeros: u32, size: u32, sign: u32) -> Meaning
 pub(crate) fn meaning_of(token: u8, extra: u32) -> Meaning
     requires token { token < 32 }
     requires extra { extra < 2 ^ further_bits token }
-    ensures { result ≡ meaning_of token extra }
+    ensures { as_meaning result ≡ meaning_of token extra }
 {
     match token {
         0 => Meaning::EndRun(1),

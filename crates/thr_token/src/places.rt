@@ -4,6 +4,7 @@ ghost use Rattle.vid_base.specs.Reading.{Gives, SameEnd};
 ghost use Rattle.vid_geom.specs.CodedOrder.{order_of};
 ghost use Rattle.thr_token.specs.Coefficients.{at_place, places, token_in, turn, unended_at};
 ghost use Rattle.thr_token.specs.Standing.{lumas_of, progress, standing};
+ghost use Rattle.thr_token.specs.Views.{as_numbers};
 
 use crate::meaning::Meaning;
 use crate::trees::{PlaceTrees, Trees};
@@ -25,7 +26,7 @@ impl PlaceTrees<'_> {
         block: &mut [i16; 64],
     ) -> Result<u8, PacketFault>
         ensures value { (count : ℕ) → Gives (λ stands. (progress luma stands block.new self.now.place, run.new)) result r.new.left
-            (turn (token_in self.now.all.forest.now self.now.all.numbers) self.now.place others (progress luma self.now.place block.old count) run.old r.old.left) }
+            (turn (token_in self.now.all.forest.now (as_numbers self.now.all.numbers)) self.now.place others (progress luma self.now.place block.old count) run.old r.old.left) }
         ensures small { IfOk result (λ stands. stands ≤ 64) }
         ensures end { SameEnd r.old r.new }
     {

@@ -4,6 +4,7 @@ ghost use Rattle.vid_base.specs.Reading.{Gives, SameEnd};
 ghost use Rattle.vid_geom.specs.CodedOrder.{order_of};
 ghost use Rattle.thr_token.specs.Coefficients.{at_place, places, token_in, unended_at};
 ghost use Rattle.thr_token.specs.Standing.{lumas_of, standing};
+ghost use Rattle.thr_token.specs.Views.{as_numbers};
 
 use crate::places::ENDED;
 use crate::trees::{PlaceTrees, Trees};
@@ -30,7 +31,7 @@ impl PlaceTrees<'_> {
         requires counts { length counts.old ≡ length (order_of self.now.all.geom.now) }
         requires work { length work.old ≡ length (order_of self.now.all.geom.now) }
         ensures value { Gives (λ run. (standing (lumas_of self.now.all.geom.now) work.new values.new counts.new, run)) result r.new.left
-            (at_place (token_in self.now.all.forest.now self.now.all.numbers) self.now.place [] (standing (lumas_of self.now.all.geom.now) work.old values.old counts.old) active r.old.left) }
+            (at_place (token_in self.now.all.forest.now (as_numbers self.now.all.numbers)) self.now.place [] (standing (lumas_of self.now.all.geom.now) work.old values.old counts.old) active r.old.left) }
         ensures end { SameEnd r.old r.new }
     {
         let place = self.place;
@@ -65,7 +66,7 @@ impl Trees<'_> {
         requires counts { length counts.old ≡ length (order_of self.now.geom.now) }
         requires work { length work.old ≡ length (order_of self.now.geom.now) }
         ensures value { Gives (λ run. (standing (lumas_of self.now.geom.now) work.new values.new counts.new, run)) result r.new.left
-            (places (token_in self.now.forest.now self.now.numbers) 63 1 (standing (lumas_of self.now.geom.now) work.old values.old counts.old) active r.old.left) }
+            (places (token_in self.now.forest.now (as_numbers self.now.numbers)) 63 1 (standing (lumas_of self.now.geom.now) work.old values.old counts.old) active r.old.left) }
         ensures end { SameEnd r.old r.new }
     {
         let mut run = active;

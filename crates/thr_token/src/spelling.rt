@@ -1,8 +1,8 @@
 // Which token says a meaning (Theora I, 7.7.1 and 7.7.2).
 ghost use Rattle.std.specs.Prelude.{◌≡◌, ◌<◌, ◌≤◌, ◌^◌, IsTrue};
-ghost use Rattle.thr_token.specs.Tokens.{further_bits, meaning_of, valued};
+ghost use Rattle.thr_token.specs.Tokens.{EndRun, ZeroRun, further_bits, meaning_of, valued};
 ghost use Rattle.thr_token.specs.Spellings.{IsSayable, in_one};
-ghost use Rattle.thr_token.specs.declared.meaning.Meaning.TheVariants.{EndRun, ZeroRun};
+ghost use Rattle.thr_token.specs.Views.{as_meaning};
 
 use crate::meaning::Meaning;
 
@@ -105,8 +105,8 @@ fn spell_both(zeros: u32, size: u32, sign: u32) -> Spelling
 
 /// The token that says it, and its further bits.
 pub(crate) fn spell(meaning: Meaning) -> Spelling
-    requires { IsSayable meaning }
-    ensures { meaning_of result.token result.extra ≡ meaning }
+    requires { IsSayable (as_meaning meaning) }
+    ensures { meaning_of result.token result.extra ≡ as_meaning meaning }
 {
     match meaning {
         Meaning::EndRun(blocks) => spell_run(blocks),

@@ -7,6 +7,7 @@ ghost use Rattle.thr_token.specs.Standing.{lumas_of};
 ghost use Rattle.thr_token.specs.Spellings.{IsSayable};
 ghost use Rattle.thr_token.specs.Tokenised.{AreBlank, IsToken, Tells};
 ghost use Rattle.thr_token.specs.Telling.{Answer, AreZeros, IsTrueOf, Telling, from_place, place_behind, said};
+ghost use Rattle.thr_token.specs.Views.{as_meaning};
 
 use crate::Coeffs;
 use crate::adding::{add, close};
@@ -37,8 +38,8 @@ fn zeros_before(block: &[i16; 64], place: u8) -> Option<u8>
 fn next_meaning(block: &[i16; 64], place: u8) -> Meaning
     requires place { place < 64 }
     requires values { All (λ v. unsigned_abs v ≤ 580) block.now }
-    ensures sayable { IsSayable result }
-    ensures right { IsTrueOf block.now place result }
+    ensures sayable { IsSayable (as_meaning result) }
+    ensures right { IsTrueOf block.now place (as_meaning result) }
     ensures size { length block.now ≡ 64 }
 {
     match zeros_before(block, place) {
@@ -57,8 +58,8 @@ fn next_meaning(block: &[i16; 64], place: u8) -> Meaning
 
 // Where a block at the place stands behind what is said of it.
 fn place_behind(place: u8, meaning: Meaning) -> u8
-    requires { place_behind place meaning ≤ 64 }
-    ensures { result ≡ place_behind place meaning }
+    requires { place_behind place (as_meaning meaning) ≤ 64 }
+    ensures { result ≡ place_behind place (as_meaning meaning) }
 {
     match meaning {
         Meaning::EndRun(_) => ENDED,

@@ -4,6 +4,7 @@ ghost use Rattle.vid_base.specs.Reading.{Gives, SameEnd};
 ghost use Rattle.vid_geom.specs.CodedOrder.{order_of, plane_blocks};
 ghost use Rattle.thr_token.specs.Coefficients.{group_of, numbers_in, token_in, tree_of};
 ghost use Rattle.thr_token.specs.Standing.{lumas_of};
+ghost use Rattle.thr_token.specs.Views.{as_meaning, as_numbers};
 
 use crate::meaning::{Meaning, further_bits, meaning_of};
 use thr_huff::Forest;
@@ -37,8 +38,8 @@ pub(crate) struct PlaceTrees<'a> {
     luma: u8,
     chroma: u8,
     ghost place_is: { place < 64 },
-    ghost luma_is: { luma ≡ tree_of all.numbers place true },
-    ghost chroma_is: { chroma ≡ tree_of all.numbers place false },
+    ghost luma_is: { luma ≡ tree_of (as_numbers all.numbers) place true },
+    ghost chroma_is: { chroma ≡ tree_of (as_numbers all.numbers) place false },
     ghost within: { (luma < 80) × (chroma < 80) },
 }
 
@@ -60,7 +61,7 @@ impl TableNumbers {
     /// Reads the two numbers.
     #[tactic(auto, unfolding(crate::specs::Coefficients::numbers_in))]
     pub(crate) fn read(r: &mut BitReader) -> Result<TableNumbers, PacketFault>
-        ensures value { Gives (λ numbers. numbers) result r.new.left (numbers_in r.old.left) }
+        ensures value { Gives as_numbers result r.new.left (numbers_in r.old.left) }
         ensures end { SameEnd r.old r.new }
         ensures small { IfOk result (λ numbers. (numbers.luma < 16) × (numbers.chroma < 16)) }
     {
@@ -73,7 +74,7 @@ impl TableNumbers {
     pub(crate) fn tree_of(self, place: u8, luma: bool) -> u8
         requires luma { self.luma < 16 }
         requires chroma { self.chroma < 16 }
-        ensures value { result ≡ tree_of self place luma }
+        ensures value { result ≡ tree_of (as_numbers self) place luma }
         ensures small { result < 80 }
     {
         16 * group_of(place) + if luma { self.luma } else { self.chroma }
@@ -87,7 +88,7 @@ impl<'a> Trees<'a> {
         forest: &'a Forest,
         geom: &'a Geom,
     ) -> Result<Trees<'a>, PacketFault>
-        ensures value { Gives (λ trees. trees.numbers) result r.new.left (numbers_in r.old.left) }
+        ensures value { Gives (λ trees. as_numbers trees.numbers) result r.new.left (numbers_in r.old.left) }
         ensures end { SameEnd r.old r.new }
         ensures trees { IfOk result (λ trees. (trees.forest.now ≡ forest.now) × (trees.geom.now ≡ geom.now)) }
     {
@@ -127,7 +128,7 @@ impl PlaceTrees<'_> {
     /// The meaning of the next token, that of a block at the place.
     #[tactic(auto, unfolding(crate::specs::Coefficients::token_in))]
     pub(crate) fn read(&self, r: &mut BitReader, luma: bool) -> Result<Meaning, PacketFault>
-        ensures value { Gives (λ meaning. meaning) result r.new.left (token_in self.now.all.forest.now self.now.all.numbers self.now.place luma r.old.left) }
+        ensures value { Gives as_meaning result r.new.left (token_in self.now.all.forest.now (as_numbers self.now.all.numbers) self.now.place luma r.old.left) }
         ensures end { SameEnd r.old r.new }
     {
         let tree = if luma { self.luma } else { self.chroma };

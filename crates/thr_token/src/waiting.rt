@@ -5,6 +5,7 @@ ghost use Rattle.vid_geom.specs.CodedOrder.{order_of};
 ghost use Rattle.thr_token.specs.Coefficients.{at_place, first_place, places, token_in, visit};
 ghost use Rattle.thr_token.specs.Listing.{IsListing, blocks_by, listed};
 ghost use Rattle.thr_token.specs.Standing.{lumas_of, progress};
+ghost use Rattle.thr_token.specs.Views.{as_numbers};
 
 use crate::places::ENDED;
 use crate::trees::{PlaceTrees, Trees};
@@ -54,7 +55,7 @@ impl PlaceTrees<'_> {
     ) -> Result<u8, PacketFault>
         requires { stands < 64 }
         ensures value { Gives (λ place. (progress luma place block.new count.new, run.new)) result r.new.left
-            (visit (token_in self.now.all.forest.now self.now.all.numbers) self.now.place others (progress luma stands block.old count.old) run.old r.old.left) }
+            (visit (token_in self.now.all.forest.now (as_numbers self.now.all.numbers)) self.now.place others (progress luma stands block.old count.old) run.old r.old.left) }
         ensures small { IfOk result (λ place. place ≤ 64) }
         ensures end { SameEnd r.old r.new }
     {
@@ -80,7 +81,7 @@ impl PlaceTrees<'_> {
         requires counts { length counts.old ≡ length (order_of self.now.all.geom.now) }
         requires list { IsListing (length (lumas_of self.now.all.geom.now)) list.old }
         ensures value { Gives (λ x. (blocks_by (lumas_of self.now.all.geom.now) (take x.1 list.new) values.new counts.new, x.0)) result r.new.left
-            (at_place (token_in self.now.all.forest.now self.now.all.numbers) self.now.place [] (blocks_by (lumas_of self.now.all.geom.now) list.old values.old counts.old) active r.old.left) }
+            (at_place (token_in self.now.all.forest.now (as_numbers self.now.all.numbers)) self.now.place [] (blocks_by (lumas_of self.now.all.geom.now) list.old values.old counts.old) active r.old.left) }
         ensures list { IfOk result (λ x. (x.1 ≤ length list.old) × IsListing (length (lumas_of self.now.all.geom.now)) (take x.1 list.new)) }
         ensures end { SameEnd r.old r.new }
     {
@@ -125,7 +126,7 @@ impl Trees<'_> {
         requires counts { length counts.old ≡ length (order_of self.now.geom.now) }
         requires list { IsListing (length (lumas_of self.now.geom.now)) list.old }
         ensures value { Gives (λ x. (blocks_by (lumas_of self.now.geom.now) (take x.1 list.new) values.new counts.new, x.0)) result r.new.left
-            (places (token_in self.now.forest.now self.now.numbers) 63 1 (blocks_by (lumas_of self.now.geom.now) list.old values.old counts.old) active r.old.left) }
+            (places (token_in self.now.forest.now (as_numbers self.now.numbers)) 63 1 (blocks_by (lumas_of self.now.geom.now) list.old values.old counts.old) active r.old.left) }
         ensures end { SameEnd r.old r.new }
     {
         let mut run = active;

@@ -5,6 +5,7 @@ ghost use Rattle.vid_base.specs.Writing.{Grows, ReadsBack};
 ghost use Rattle.thr_token.specs.Coefficients.{coefficients};
 ghost use Rattle.thr_token.specs.Tokenised.{IsToken, Tells};
 ghost use Rattle.thr_token.specs.WrittenTokens.{IsHeld, code_for, codes_in, in_part, numbers_code, numbers_of, part_code, token_code, tokens_code, tokens_in};
+ghost use Rattle.thr_token.specs.Views.{as_numbers, as_part};
 
 use crate::meaning::further_bits;
 use crate::token::{Tables, Token};
@@ -24,7 +25,7 @@ pub(crate) enum Part {
 impl Part {
     // Whether the tokens of a place belong to the part.
     fn has(self, place: u8) -> bool
-        ensures { result ≡ in_part self place }
+        ensures { result ≡ in_part (as_part self) place }
     {
         match self {
             Part::Dc => place == 0,
@@ -36,7 +37,7 @@ impl Part {
 impl Tables {
     // The tables of a part.
     pub(crate) fn of(&self, part: Part) -> TableNumbers
-        ensures { result ≡ numbers_of self.now part }
+        ensures { as_numbers result ≡ numbers_of self.now (as_part part) }
     {
         match part {
             Part::Dc => TableNumbers {
@@ -56,7 +57,7 @@ impl Tables {
 fn write_numbers(w: &mut BitWriter, numbers: TableNumbers) -> Result<(), NoMem>
     requires luma { numbers.luma < 16 }
     requires chroma { numbers.chroma < 16 }
-    ensures written { OnOk result (w.new ≡ w.old ++ numbers_code numbers) }
+    ensures written { OnOk result (w.new ≡ w.old ++ numbers_code (as_numbers numbers)) }
     ensures few { OnOk result (length w.new ≡ length w.old + 8) }
     ensures memory { OnErr result (Grows w.old w.new) }
 {
@@ -75,8 +76,8 @@ fn write_token(
     requires luma { numbers.luma < 16 }
     requires chroma { numbers.chroma < 16 }
     requires token { IsToken token }
-    requires held { IsSome (code_for forest.now numbers token) }
-    ensures written { OnOk result (w.new ≡ w.old ++ token_code forest.now numbers token) }
+    requires held { IsSome (code_for forest.now (as_numbers numbers) token) }
+    ensures written { OnOk result (w.new ≡ w.old ++ token_code forest.now (as_numbers numbers) token) }
     ensures few { OnOk result (length w.new ≤ length w.old + 44) }
     ensures memory { OnErr result (Grows w.old w.new) }
 {
@@ -97,12 +98,12 @@ fn write_codes(
     tables: &Tables,
     part: Part,
 ) -> Result<(), NoMem>
-    requires luma { (numbers_of tables.now part).luma < 16 }
-    requires chroma { (numbers_of tables.now part).chroma < 16 }
+    requires luma { (numbers_of tables.now (as_part part)).luma < 16 }
+    requires chroma { (numbers_of tables.now (as_part part)).chroma < 16 }
     requires tokens { All IsToken tokens.now }
     requires held { All (IsHeld forest.now tables.now) tokens.now }
-    ensures written { OnOk result (w.new ≡ w.old ++ codes_in forest.now tables.now part tokens.now) }
-    ensures few { OnOk result (length w.new ≤ length w.old + 44 * tokens_in part tokens.now) }
+    ensures written { OnOk result (w.new ≡ w.old ++ codes_in forest.now tables.now (as_part part) tokens.now) }
+    ensures few { OnOk result (length w.new ≤ length w.old + 44 * tokens_in (as_part part) tokens.now) }
     ensures memory { OnErr result (Grows w.old w.new) }
 {
     let numbers = tables.of(part);
@@ -123,12 +124,12 @@ fn write_part(
     tables: &Tables,
     part: Part,
 ) -> Result<(), NoMem>
-    requires luma { (numbers_of tables.now part).luma < 16 }
-    requires chroma { (numbers_of tables.now part).chroma < 16 }
+    requires luma { (numbers_of tables.now (as_part part)).luma < 16 }
+    requires chroma { (numbers_of tables.now (as_part part)).chroma < 16 }
     requires tokens { All IsToken tokens.now }
     requires held { All (IsHeld forest.now tables.now) tokens.now }
-    ensures written { OnOk result (w.new ≡ w.old ++ part_code forest.now tables.now part tokens.now) }
-    ensures few { OnOk result (length w.new ≤ length w.old + 8 + 44 * tokens_in part tokens.now) }
+    ensures written { OnOk result (w.new ≡ w.old ++ part_code forest.now tables.now (as_part part) tokens.now) }
+    ensures few { OnOk result (length w.new ≤ length w.old + 8 + 44 * tokens_in (as_part part) tokens.now) }
     ensures memory { OnErr result (Grows w.old w.new) }
 {
     write_numbers(w, tables.of(part))?;

@@ -4,6 +4,7 @@ use Rattle.vid_geom.specs.CodedOrder.{order_of}
 use Rattle.thr_token.specs.Coefficients.{is_luma}
 use Rattle.thr_token.specs.Standing.{lumas_of}
 use Rattle.thr_token.specs.Telling.{place_behind}
+use Rattle.thr_token.specs.Views.{as_meaning}
 use Rattle.thr_token.proofs.TreeLemmas.{luma_at}
 use Rattle.thr_token.proofs.TellingLemmas.{any_default, behind_pass, behind_set, low_set, moved, telling_begin, telling_end, telling_more, telling_pass, within}
 use Rattle.thr_token.proofs.tokenising.at_place.Goals.{then-work-i+in_ok-run, else-work-i}
@@ -13,7 +14,7 @@ pub next_meaning-meaning-requires-clause-values : goal.next_meaning-meaning-requ
 next_meaning-meaning-requires-clause-values c = c.requires.small c.order.b [] (omega (arith, c.requires.values, c.blocks-b-end.ensures.value, c.order-test.true))
 
 pub place_behind-requires : goal.place_behind-requires
-place_behind-requires c = within (get_or c.args.values.now c.order.b []) c.args.place c.next_meaning-meaning.result c.next_meaning-meaning.ensures.right
+place_behind-requires c = within (get_or c.args.values.now c.order.b []) c.args.place (as_meaning c.next_meaning-meaning.result) c.next_meaning-meaning.ensures.right
 
 pub order-init : goal.order-init
 order-init c = record {
@@ -35,7 +36,7 @@ order-preserved c =
     let works : b < length c.order.work = omega (arith, c.order.invariant.size, c.requires.work, c.blocks-b-end.ensures.value, c.order-test.true) in
     elim c.if-work-i.branch [
       | then-work-i+in_ok-run w ↦
-          let meaning = w.next_meaning-meaning.result in
+          let meaning = as_meaning w.next_meaning-meaning.result in
           let right = w.next_meaning-meaning.ensures.right in
           let far : place < place_behind place meaning = moved block place meaning c.requires.place w.next_meaning-meaning.ensures.sayable in
           let work : c.if-work-i.work ≡ set c.order.work b (place_behind place meaning) = w.work-is ∙ ap (set c.order.work b) w.place_behind.ensures in

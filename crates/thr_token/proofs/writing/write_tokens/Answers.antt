@@ -1,7 +1,6 @@
 use Rattle.std.proofs.Common.{◌∙◌, ◌++◌, ap, append_assoc, arith}
 use Rattle.std.proofs.lemmas.Result.{on_ok_weaker}
-use Rattle.thr_token.specs.WrittenTokens.{tokens_code, part_code}
-use Rattle.thr_token.specs.declared.writing.Part.TheVariants.{Dc, Ac}
+use Rattle.thr_token.specs.WrittenTokens.{Dc, Ac, tokens_code, part_code}
 use Rattle.thr_token.proofs.WritingLemmas.{parts_are_all, told_back}
 use Rattle.thr_token.proofs.writing.write_tokens.Goals as goal
 

@@ -6,6 +6,7 @@ use Rattle.vid_geom.specs.CodedOrder.{order_of}
 use Rattle.thr_token.specs.Coefficients.{Source, at_place, is_luma, token_in}
 use Rattle.thr_token.specs.Listing.{IsListing, blocks_by}
 use Rattle.thr_token.specs.Standing.{lumas_of}
+use Rattle.thr_token.specs.Views.{as_numbers}
 use Rattle.thr_token.proofs.PlaceLemmas.{here}
 use Rattle.thr_token.proofs.WaitingLemmas.{IsKept, block_ends, block_stays, from_block, from_end, from_front, next_block, word_fault, word_more, word_within}
 use Rattle.thr_token.proofs.trees.PlaceTrees.at_place.Goals.{then-stands-lt-ENDED, else-stands-lt-ENDED}
@@ -29,7 +30,7 @@ list-init c =
       values_are = omega arith;
       counts_are = omega arith;
       listing = c.requires.list;
-      same = from_front (token_in trees.all.forest.now trees.all.numbers) trees.place lumas c.args.list.now c.args.values.now c.args.counts.now c.args.active c.args.r.now.left
+      same = from_front (token_in trees.all.forest.now (as_numbers trees.all.numbers)) trees.place lumas c.args.list.now c.args.values.now c.args.counts.now c.args.active c.args.r.now.left
           trees.place_is c.requires.list (omega arith) (omega arith);
     }
 
@@ -64,7 +65,7 @@ returns-in_err-stands-clause-value c =
     let s = c.list in
     let trees = c.args.self.now in
     let lumas : List Bool = lumas_of trees.all.geom.now in
-    let next = token_in trees.all.forest.now trees.all.numbers in
+    let next = token_in trees.all.forest.now (as_numbers trees.all.numbers) in
     let listing = listing_here (length lumas) s.k s.kept s.list (omega arith) s.invariant.listing in
     let fault = word_fault next trees.place lumas (take s.kept s.list) (get_or s.list s.k 0) (drop (s.k + 1) s.list) s.values s.counts s.run s.r.left _ listing s.invariant.values_are s.invariant.counts_are
     _ _ (others_are s.k s.kept _ s.list (omega arith) s.invariant.low refl) c.is_luma.ensures c.in_err-stands.ensures.value in
@@ -75,7 +76,7 @@ list-preserved c =
     let s = c.list in
     let trees = c.args.self.now in
     let lumas : List Bool = lumas_of trees.all.geom.now in
-    let next = token_in trees.all.forest.now trees.all.numbers in
+    let next = token_in trees.all.forest.now (as_numbers trees.all.numbers) in
     let word : ℕ = get_or s.list s.k 0 in
     let listing = listing_here (length lumas) s.k s.kept s.list (omega arith) s.invariant.listing in
     let after = word_more next trees.place lumas (take s.kept s.list) word (drop (s.k + 1) s.list) s.values s.counts s.run c.in_ok-stands.stands c.visit.new.block c.visit.new.count c.visit.new.run s.r.left c.visit.new.r.left
@@ -100,7 +101,7 @@ returns c =
     let s = c.list in
     let trees = c.args.self.now in
     let lumas : List Bool = lumas_of trees.all.geom.now in
-    let next = token_in trees.all.forest.now trees.all.numbers in
+    let next = token_in trees.all.forest.now (as_numbers trees.all.numbers) in
     let words : List ℕ = take s.kept s.list in
     let none : drop s.k s.list ≡ [] = drop_all s.k s.list (omega arith) in
     let same = subst (λ behind. from_block next trees.place (blocks_by lumas (words ++ behind) s.values s.counts) (next_block (length lumas) behind) s.run s.r.left

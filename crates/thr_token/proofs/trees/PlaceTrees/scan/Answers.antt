@@ -9,6 +9,7 @@ use Rattle.std.proofs.Math.ListN.{length-set}
 use Rattle.vid_geom.specs.CodedOrder.{order_of}
 use Rattle.thr_token.specs.Coefficients.{Progress, is_luma, token_in, unended_at}
 use Rattle.thr_token.specs.Standing.{lumas_of, standing}
+use Rattle.thr_token.specs.Views.{as_numbers}
 use Rattle.thr_token.proofs.StandingLemmas.{length_standing, unended_others, unended_set}
 use Rattle.thr_token.proofs.PlaceLemmas.{place_done, turn_fault, turn_more, turn_pass}
 use Rattle.thr_token.proofs.trees.PlaceTrees.scan.Goals.{then-work-i+in_ok-stands, else-work-i}
@@ -54,7 +55,7 @@ returns-in_err-stands-clause-value c =
     let within : s.b < length lumas = omega (arith, length-map (order_of trees.all.geom.now) is_luma) in
     let others = others_are trees.place s.open s.b s.work (omega (arith, s.invariant.even.places_are)) trees.place_is c.if-work-i.true s.invariant.open_are in
     let turned = rw (others, c.is_luma-luma.ensures) at (c.in_err-stands.ensures.value (get_or s.counts s.b 0)) in
-    let fault = turn_fault (token_in trees.all.forest.now trees.all.numbers) trees.place s.b lumas s.work s.values s.counts s.run s.r.left _ s.invariant.even within c.if-work-i.true turned in
+    let fault = turn_fault (token_in trees.all.forest.now (as_numbers trees.all.numbers)) trees.place s.b lumas s.work s.values s.counts s.run s.r.left _ s.invariant.even within c.if-work-i.true turned in
     rw (p.1, p.2) (sym s.invariant.same ∙ fault)
 
 pub order-preserved : goal.order-preserved
@@ -68,7 +69,7 @@ order-preserved c =
       | then-work-i+in_ok-stands w ↦
           let others = others_are trees.place s.open s.b s.work long trees.place_is w.if-work-i.true s.invariant.open_are in
           let turned = rw (others, w.is_luma-luma.ensures) at (w.in_ok-stands.ensures.value (get_or s.counts s.b 0)) in
-          let more = turn_more (token_in trees.all.forest.now trees.all.numbers) trees.place s.b lumas s.work s.values s.counts s.run _ _ _ s.r.left _ s.invariant.even within w.if-work-i.true turned in
+          let more = turn_more (token_in trees.all.forest.now (as_numbers trees.all.numbers)) trees.place s.b lumas s.work s.values s.counts s.run _ _ _ s.r.left _ s.invariant.even within w.if-work-i.true turned in
           let places = length-set s.work s.b w.in_ok-stands.stands in
           let blocks = length-set s.values s.b w.turn.new.block in
           let counts = length-set s.counts s.b trees.place in
@@ -79,7 +80,7 @@ order-preserved c =
             same = more ∙ s.invariant.same;
           })
       | else-work-i w ↦
-          let pass = turn_pass (token_in trees.all.forest.now trees.all.numbers) trees.place s.b lumas s.work s.values s.counts s.run s.r.left s.invariant.even within w.if-work-i.false in
+          let pass = turn_pass (token_in trees.all.forest.now (as_numbers trees.all.numbers)) trees.place s.b lumas s.work s.values s.counts s.run s.r.left s.invariant.even within w.if-work-i.false in
           rw (w.r-is, w.values-is, w.counts-is, w.work-is, w.run-is, w.open-is) (record { end = s.invariant.end; open_are = s.invariant.open_are; even = s.invariant.even; same = pass ∙ s.invariant.same })
     ]
 
@@ -90,4 +91,4 @@ returns-clause-value c =
     let lumas : List Bool = lumas_of trees.all.geom.now in
     let all : List Progress = standing lumas s.work s.values s.counts in
     let past : length all ≤ s.b = omega (arith, length_standing lumas s.work s.values s.counts s.invariant.even, length-map (order_of trees.all.geom.now) is_luma) in
-    sym s.invariant.same ∙ place_done (token_in trees.all.forest.now trees.all.numbers) trees.place s.b all s.run s.r.left past
+    sym s.invariant.same ∙ place_done (token_in trees.all.forest.now (as_numbers trees.all.numbers)) trees.place s.b all s.run s.r.left past
