@@ -2,7 +2,7 @@
 use Rattle.std.proofs.Common.{◌≡◌, ◌∙◌, ℕ, zero, suc, ◌+◌, ◌-◌, ◌*◌, ◌/◌, ◌%◌, ◌<◌, ◌≤◌, Bool, true, false, List, [], length, get_or, Some, None, ℤ, pos, refl, ap, arith}
 use Rattle.std.proofs.lemmas.List.FromFn.{length-map-range_with_len, get_or-map-range_with_len}
 use Rattle.std.proofs.lemmas.Nat.{div-mul-add, div_below, mod-mul-add, mod_below}
-use Rattle.std.proofs.Math.Nat.{suc-mul}
+use Rattle.std.proofs.Math.Nat.{mul-suc, suc-mul}
 use Rattle.vid_base.specs.declared.shape.Shape.{Shape}
 use Rattle.vid_geom.specs.CodedOrder.{block_columns, place_of, plane_blocks}
 use Rattle.thr_dc.specs.Frames.{block_at, dc_at, plane_of, raster_block}
@@ -65,14 +65,30 @@ along_below w place column row h along =
     let more : row * w ≡ (row - 1) * w + w = ap (λ r. r * w) next ∙ suc-mul (row - 1) w in
     record { inside = along.inside; place_is = omega (arith, along.place_is, more) }
 
+-- those of the first place of a row and of the first place of all
+pub along_first : (w h : ℕ) → 0 < w * h → IsAlong w 0 0 0
+along_first w h some = record { inside = some_column w h 0 some; place_is = omega arith }
+
+pub along_next_row : (w place column row : ℕ) → w ≤ column + 1 → IsAlong w place column row → IsAlong w (place + 1) 0 (row + 1)
+along_next_row w place column row last along = record { inside = omega (arith, along.inside); place_is = omega (arith, along.inside, along.place_is, suc-mul row w) }
+
+-- a row's number is no larger than the place of a block in it
+pub row_low : (w place column row : ℕ) → IsAlong w place column row → row ≤ place
+row_low zero place column row along = absurd (omega (arith, along.inside))
+row_low (suc w) place column row along = omega (arith, along.place_is, mul-suc row w)
+
+pub column_is : (w place column row : ℕ) → IsAlong w place column row → place % w ≡ column
+column_is w place column row along = ap (λ p. p % w) along.place_is ∙ mod-mul-add row w column along.inside
+
+pub row_is : (w place column row : ℕ) → IsAlong w place column row → place / w ≡ row
+row_is w place column row along = ap (λ p. p / w) along.place_is ∙ div-mul-add row w column along.inside
+
 -- the block there
 pub along_block : (s : Shape) (pli place column row : ℕ) → IsAlong (block_columns s pli) place column row → block_at pli column row ≡ raster_block s pli place
 unfolding raster_block
 along_block s pli place column row along =
     let w = block_columns s pli in
-    let column_is : place % w ≡ column = ap (λ p. p % w) along.place_is ∙ mod-mul-add row w column along.inside in
-    let row_is : place / w ≡ row = ap (λ p. p / w) along.place_is ∙ div-mul-add row w column along.inside in
-    rw (column_is, row_is) refl
+    rw (column_is w place column row along, row_is w place column row along) refl
 
 -- it stands in the plane
 pub along_within : (w h place column row : ℕ) → row < h → IsAlong w place column row → place < w * h

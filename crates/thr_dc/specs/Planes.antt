@@ -1,6 +1,7 @@
 -- A plane of a frame as the code holds it (own).
 use Rattle.std.specs.Prelude.{ℕ, ◌≡◌, ◌<◌, ◌+◌, ◌*◌, Bool, List, length}
 use Rattle.vid_base.specs.declared.shape.Shape.{Shape}
+use Rattle.thr_dc.specs.declared.plane.Spot.{Spot}
 use Rattle.vid_geom.specs.CodedOrder.{block_columns, order_of, plane_blocks}
 
 -- a plane of a frame of the shape s, and its sizes
@@ -15,3 +16,7 @@ pub record IsPlane (s : Shape) (flags : List Bool) (kinds : List ℕ) (pli colum
 pub record IsAlong (columns place column row : ℕ) : Type 0 where
   pub inside : column < columns
   pub place_is : place ≡ row * columns + column
+
+-- a block of such a plane stands where it is said to stand
+abbrev pub IsSpot : ℕ → Spot → Type 0
+IsSpot columns spot = IsAlong columns spot.place spot.column spot.row

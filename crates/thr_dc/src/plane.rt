@@ -16,3 +16,11 @@ pub(crate) struct Plane<'a> {
     pub(crate) blocks: u32,
     ghost is_plane: { IsPlane geom.now flags.now kinds.now pli columns blocks },
 }
+
+/// A block of a plane: its place in raster order, and the column and the row that it stands in.
+#[derive(Clone, Copy)]
+pub(crate) struct Spot {
+    pub(crate) place: u32,
+    pub(crate) column: u32,
+    pub(crate) row: u32,
+}

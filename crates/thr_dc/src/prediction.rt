@@ -2,11 +2,11 @@
 ghost use Rattle.std.specs.Prelude.{◌≡◌, ◌<◌, ◌≤◌, ℕ, IfSome, None, get_or, length, take, true, unsigned_abs};
 ghost use Rattle.vid_geom.specs.CodedOrder.{block_columns, block_rows, order_of, place_of, plane_blocks};
 ghost use Rattle.thr_dc.specs.Frames.{block_at, raster_block};
-ghost use Rattle.thr_dc.specs.Planes.{IsAlong};
+ghost use Rattle.thr_dc.specs.Planes.{IsAlong, IsSpot};
 ghost use Rattle.thr_dc.specs.Prediction.{around, counted, last_of, neighbour, predicted};
 ghost use Rattle.thr_dc.specs.Walks.{blocks_of};
 
-use crate::plane::Plane;
+use crate::plane::{Plane, Spot};
 use crate::predictor::from_neighbours;
 use vid_geom::{Block, Geom};
 
@@ -35,8 +35,8 @@ impl<'a> Plane<'a> {
 }
 
 impl Plane<'_> {
-    /// The coded place of a block by its place in raster order.
-    pub(crate) fn coded_place(&self, place: u32) -> usize
+    // The coded place of a block by its place in raster order.
+    fn coded_place(&self, place: u32) -> usize
         requires { place < self.now.blocks }
         ensures value { result ≡ place_of self.now.geom.now (raster_block self.now.geom.now self.now.pli place) }
         ensures below { result < length (order_of self.now.geom.now) }
@@ -44,8 +44,8 @@ impl Plane<'_> {
         self.coded_place_at(place % self.columns, place / self.columns)
     }
 
-    // The coded place of the block in a column and a row: this divides nothing.
-    fn coded_place_at(&self, column: u32, row: u32) -> usize
+    /// The coded place of the block in a column and a row: this divides nothing.
+    pub(crate) fn coded_place_at(&self, column: u32, row: u32) -> usize
         requires column { column < block_columns self.now.geom.now self.now.pli }
         requires row { row < block_rows self.now.geom.now self.now.pli }
         ensures value { result ≡ place_of self.now.geom.now (block_at self.now.pli column row) }
@@ -119,15 +119,16 @@ impl Plane<'_> {
         0
     }
 
-    // What the neighbours of the block at a place predict, if one counts for a kind.
-    fn around(&self, values: &[[i16; 64]], place: u32, kind: u8) -> Option<i32>
-        requires place { place < self.now.blocks }
+    // What the neighbours of a block predict, if one counts for a kind.
+    fn around(&self, values: &[[i16; 64]], spot: Spot, kind: u8) -> Option<i32>
+        requires place { spot.place < self.now.blocks }
+        requires spot { IsSpot self.now.columns spot }
+        requires row { spot.row < block_rows self.now.geom.now self.now.pli }
         requires values { length values.now ≡ length (order_of self.now.geom.now) }
-        ensures value { result ≡ around (block_columns self.now.geom.now self.now.pli) (take place (blocks_of self.now values.now)) kind }
+        ensures value { result ≡ around (block_columns self.now.geom.now self.now.pli) (take spot.place (blocks_of self.now values.now)) kind }
         ensures within { IfSome result (λ p. unsigned_abs p ≤ 32896) }
     {
-        let column = place % self.columns;
-        let row = place / self.columns;
+        let Spot { place, column, row } = spot;
         let has_left = column > 0;
         let has_below = place >= self.columns;
         let has_right = column + 1 < self.columns;
@@ -141,17 +142,19 @@ impl Plane<'_> {
         )
     }
 
-    /// The predictor of the block at a place in raster order, if it has this kind.
+    /// The predictor of a block, if it has this kind.
     #[tactic(auto, unfolding(crate::specs::Prediction::predicted))]
-    pub(crate) fn predictor(&self, values: &[[i16; 64]], place: u32, kind: u8) -> i32
-        requires place { place < self.now.blocks }
+    pub(crate) fn predictor(&self, values: &[[i16; 64]], spot: Spot, kind: u8) -> i32
+        requires place { spot.place < self.now.blocks }
+        requires spot { IsSpot self.now.columns spot }
+        requires row { spot.row < block_rows self.now.geom.now self.now.pli }
         requires values { length values.now ≡ length (order_of self.now.geom.now) }
-        ensures value { result ≡ predicted (block_columns self.now.geom.now self.now.pli) (take place (blocks_of self.now values.now)) kind }
+        ensures value { result ≡ predicted (block_columns self.now.geom.now self.now.pli) (take spot.place (blocks_of self.now values.now)) kind }
         ensures within { unsigned_abs result ≤ 32896 }
     {
-        match self.around(values, place, kind) {
+        match self.around(values, spot, kind) {
             Some(predictor) => predictor,
-            None => i32::from(self.last(values, place, kind)),
+            None => i32::from(self.last(values, spot.place, kind)),
         }
     }
 }

@@ -1,10 +1,10 @@
-use Rattle.std.proofs.Common.{arith}
+use Rattle.std.proofs.Common.{◌-◌, arith}
 use Rattle.std.proofs.lemmas.List.{drop_all}
 use Rattle.std.proofs.lemmas.List.Elements.{All-nil}
-use Rattle.vid_geom.specs.CodedOrder.{block_columns}
+use Rattle.vid_geom.specs.CodedOrder.{block_columns, block_rows}
 use Rattle.thr_dc.specs.Changes.{value_by}
 use Rattle.thr_dc.specs.Walks.{IsShort, blocks_of}
-use Rattle.thr_dc.proofs.PlaneLemmas.{plane_long}
+use Rattle.thr_dc.proofs.PlaneLemmas.{along_here, plane_long, some_column}
 use Rattle.thr_dc.proofs.WalkLemmas.{by_old_more, by_old_none, changes_in_more, changes_in_none, short_back}
 use Rattle.thr_dc.proofs.plane.Plane.change_downwards.Goals as goal
 
@@ -19,6 +19,12 @@ places-init c =
       short = rw (drop_all plane.blocks old (omega arith)) (All-nil IsShort);
       rest = changes_in_none s plane.flags.now plane.kinds.now plane.pli c.args.values.now;
     }
+
+pub change_block-requires-clause-spot : goal.change_block-requires-clause-spot
+change_block-requires-clause-spot c =
+    let plane = c.args.self.now in
+    let some = some_column (block_columns plane.geom.now plane.pli) (block_rows plane.geom.now plane.pli) (c.places.place - 1) (omega arith) in
+    along_here plane.columns _ (omega (arith, some, plane.is_plane.columns_are))
 
 pub places-preserved : goal.places-preserved
 places-preserved c =

@@ -1,12 +1,25 @@
 use Rattle.std.proofs.Common.{[], None, get_or, take, arith}
 use Rattle.std.proofs.lemmas.List.{take_all}
-use Rattle.vid_geom.specs.CodedOrder.{block_columns}
+use Rattle.vid_geom.specs.CodedOrder.{block_columns, block_rows}
 use Rattle.thr_dc.specs.Changes.{value_by}
 use Rattle.thr_dc.specs.Prediction.{by_new, changed}
 use Rattle.thr_dc.specs.Walks.{blocks_of}
-use Rattle.thr_dc.proofs.PlaneLemmas.{plane_long}
+use Rattle.thr_dc.proofs.PlaneLemmas.{plane_long, row_below, row_is, row_low}
 use Rattle.thr_dc.proofs.WalkLemmas.{ahead_more, by_new_all, by_new_more, changes_in_more, short_more}
 use Rattle.thr_dc.proofs.plane.Plane.change_upwards.Goals as goal
+
+pub change_block-requires-clause-spot : goal.change_block-requires-clause-spot
+change_block-requires-clause-spot c = c.places.invariant.along (omega arith)
+
+pub change_block-requires-clause-row : goal.change_block-requires-clause-row
+change_block-requires-clause-row c =
+    let plane = c.args.self.now in
+    let is = row_is plane.columns c.places.place c.places.column c.places.row (c.places.invariant.along (omega arith)) in
+    let below = row_below (block_columns plane.geom.now plane.pli) (block_rows plane.geom.now plane.pli) c.places.place (omega arith) in
+    omega (arith, is, rw (← plane.is_plane.columns_are) at below)
+
+pub next-next_column-requires : goal.next-next_column-requires
+next-next_column-requires c = omega (arith, row_low c.args.self.now.columns c.places.place c.places.column c.places.row (c.places.invariant.along (omega arith)))
 
 pub places-preserved : goal.places-preserved
 places-preserved c =
@@ -20,6 +33,7 @@ places-preserved c =
     let all = by_new (value_by c.args.change) w [] old in
     record {
       blocks = by_new_more (value_by c.args.change) w c.places.place now (blocks_of plane c.change_block.new.values) all (omega arith) c.change_block.ensures.blocks c.places.invariant.blocks;
+      along = λ _. c.next-next_column.ensures c.places.place (c.places.invariant.along (omega arith));
       ahead = ahead_more now (blocks_of plane c.change_block.new.values) old c.places.place (changed (value_by c.args.change) w (take c.places.place now) (get_or now c.places.place None)) c.change_block.ensures.blocks c.places.invariant.ahead;
       short = short_more now old c.places.place (omega arith) c.places.invariant.ahead c.change_block.ensures.short c.places.invariant.short;
       rest = changes_in_more s plane.flags.now plane.kinds.now plane.pli c.args.values.now c.places.values c.change_block.new.values c.places.invariant.rest c.change_block.ensures.rest;
