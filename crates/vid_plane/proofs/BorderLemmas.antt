@@ -1,13 +1,11 @@
 -- How a plane stands in its buffer: its samples, what a write leaves, and the border. The functions of `border` and `plane` cite these.
-use Rattle.std.proofs.Common.{◌≡◌, ◌≢◌, ◌∙◌, ℕ, zero, suc, ◌+◌, ◌-◌, ◌*◌, ◌/◌, ◌%◌, ◌<◌, ◌≤◌, ◌⊎◌, inl, inr, Bool, true, false, List, [], ◌∷◌, ◌++◌, length, get_or, set, take, drop, replicate, refl, sym, ap, subst, arith, rules, length-set, get_or-set_other, append_assoc, min, drop-cons}
-use Rattle.std.specs.Prelude.{map}
-use Rattle.std.specs.List.{range_with_len}
+use Rattle.std.proofs.Common.{◌≡◌, ◌≢◌, ◌∙◌, ℕ, zero, suc, ◌+◌, ◌-◌, ◌*◌, ◌/◌, ◌%◌, ◌<◌, ◌≤◌, ◌⊎◌, inl, inr, Bool, true, false, List, [], ◌∷◌, ◌++◌, length, get_or, set, take, drop, replicate, refl, sym, ap, arith, rules, length-set, get_or-set_other, append_assoc, drop-cons}
 use Rattle.std.proofs.lemmas.List.{take-append-drop, get_or-replicate, length-replicate, places, drop-set-lt, drop-drop, drop_all, take_at}
 use Rattle.std.proofs.lemmas.List.FromFn.{get_or-map-range_with_len, length-map-range_with_len}
 use Rattle.std.proofs.lemmas.Nat.{mul-add-lt, div-mul-add, mod-mul-add, same_from_place}
 use Rattle.std.proofs.lemmas.Grind.{get_or-set_at, take-set_at}
 use Rattle.std.proofs.lemmas.Bool.{cases_lt, cases_eq}
-use Rattle.vid_plane.specs.Picture.{Picture, pixel, run_of, with_pixel, with_row, with_rows, blank, IsPicture}
+use Rattle.vid_plane.specs.Picture.{Picture, pixel, with_pixel, with_row, with_rows, blank, IsPicture}
 use Rattle.vid_plane.specs.Border.{cell, inner, shown, written, nearest, IsWidened, IsStretched, IsFramed, IsPlane}
 use Rattle.vid_plane.proofs.CellLemmas.{same_by_places, places_apart, get_or-before, get_or-part, get_or-behind}
 use borrow.Rule.Slice.PartMut.{put_mid}

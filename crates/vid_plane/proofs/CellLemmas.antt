@@ -1,6 +1,6 @@
 -- Places of columns and rows in lists that hold rows one after another. The lemmas on pictures and on the border cite these.
-use Rattle.std.proofs.Common.{◌≡◌, ◌≢◌, ◌∙◌, ℕ, zero, ◌+◌, ◌-◌, ◌*◌, ◌/◌, ◌%◌, ◌<◌, ◌≤◌, ◌⊎◌, inl, inr, List, length, get_or, refl, sym, ap, subst, arith, rules, suc}
-use Rattle.std.proofs.lemmas.Nat.{mul-add-lt, div-mul-add, mod-mul-add, same_from_place, div_below, mod_below, div-add-mod', row_fits}
+use Rattle.std.proofs.Common.{◌≡◌, ◌≢◌, ◌∙◌, ℕ, zero, ◌+◌, ◌*◌, ◌/◌, ◌%◌, ◌<◌, ◌≤◌, List, length, get_or, sym, subst, arith, suc}
+use Rattle.std.proofs.lemmas.Nat.{same_from_place, div_below, mod_below, div-add-mod', row_fits}
 use Rattle.std.proofs.lemmas.List.{ext_get_or, places}
 use borrow.Rule.Slice.PartMut.{put_mid}
 

@@ -1,13 +1,13 @@
 -- Frames and their sizes: what crates above cite on `IsFrameOf` and `AreOf`, and the frames of a store.
-use Rattle.std.proofs.Common.{◌≡◌, ◌∙◌, ℕ, ◌+◌, ◌*◌, ◌<◌, ◌≤◌, Bool, true, false, cond, refl, sym, ap, subst, arith, rules}
+use Rattle.std.proofs.Common.{◌≡◌, ◌∙◌, ℕ, ◌*◌, ◌≤◌, Bool, refl, sym, arith}
 use Rattle.std.proofs.lemmas.Bool.Decides.{nat_tests}
 use Rattle.std.proofs.lemmas.Nat.{mul-le}
 use Rattle.vid_base.specs.declared.shape.Shape.{Shape}
 use Rattle.vid_base.specs.Sizes.{plane_width, plane_height}
 use Rattle.vid_plane.specs.Picture.{Picture, blank, sealed_picture, IsLike}
 use Rattle.vid_plane.specs.Paints.{Paints}
-use Rattle.vid_plane.specs.Frames.{References, IsPlaneOf, IsFrameOf, AreOf, plane_of, with_plane, sealed_frame, blank_plane, blank_frame}
-use Rattle.vid_plane.specs.Kept.{golden_at, references_of}
+use Rattle.vid_plane.specs.Frames.{References, IsPlaneOf, IsFrameOf, AreOf, sealed_frame, blank_plane, blank_frame}
+use Rattle.vid_plane.specs.Kept.{references_of}
 use Rattle.vid_plane.specs.declared.frame.Frame.{Frame}
 use Rattle.vid_plane.specs.declared.store.Kept.{Kept}
 use Rattle.vid_plane.specs.declared.store.GoldenIs.{GoldenIs}

@@ -1,7 +1,6 @@
 -- Rectangles that were painted: one sample, rows and blocks, and rectangles beside and on each other. Crates above cite these.
-use Rattle.std.proofs.Common.{◌≡◌, ◌≢◌, ◌∙◌, ℕ, zero, suc, ◌+◌, ◌-◌, ◌*◌, ◌<◌, ◌≤◌, ◌⊎◌, inl, inr, Bool, List, [], ◌∷◌, length, get_or, refl, sym, ap, subst, arith}
+use Rattle.std.proofs.Common.{◌≡◌, ◌∙◌, ℕ, suc, ◌+◌, ◌-◌, ◌*◌, ◌<◌, ◌≤◌, inl, inr, Bool, List, [], ◌∷◌, length, get_or, refl, sym, ap, subst, arith}
 use Rattle.std.proofs.lemmas.Bool.{cases_lt}
-use Rattle.std.specs.List.{All}
 use Rattle.vid_plane.specs.Picture.{Picture, pixel, with_pixel, with_row, with_rows}
 use Rattle.vid_plane.specs.Paints.{Paints}
 use Rattle.vid_plane.proofs.CellLemmas.{same_by_places}

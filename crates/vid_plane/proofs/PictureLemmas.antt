@@ -1,12 +1,10 @@
 -- Samples of pictures after changes: what crates above cite on `pixel`, `with_pixel`, `with_row` and `with_rows`.
-use Rattle.std.proofs.Common.{◌≡◌, ◌≢◌, ◌∙◌, ℕ, zero, suc, ◌+◌, ◌*◌, ◌<◌, ◌≤◌, ◌⊎◌, Bool, List, [], ◌∷◌, length, get_or, set, refl, sym, ap, arith, length-set, get_or-set_other, true, false}
-use Rattle.std.specs.Prelude.{map}
-use Rattle.std.specs.List.{range_with_len}
+use Rattle.std.proofs.Common.{◌≡◌, ◌∙◌, ℕ, ◌+◌, ◌*◌, ◌<◌, List, [], ◌∷◌, length, get_or, refl, arith, length-set, get_or-set_other, true, false}
 use Rattle.std.proofs.lemmas.List.FromFn.{get_or-map-range_with_len, length-map-range_with_len}
 use Rattle.std.proofs.lemmas.Nat.{mul-add-lt}
 use Rattle.std.proofs.lemmas.Grind.{get_or-set_at}
-use Rattle.vid_plane.specs.Picture.{Picture, pixel, run_of, row_of, with_pixel, with_row, with_rows, sealed_picture, IsPicture, IsLike}
-use Rattle.vid_plane.proofs.CellLemmas.{same_by_places, places_apart}
+use Rattle.vid_plane.specs.Picture.{Picture, pixel, run_of, with_pixel, with_row, with_rows, sealed_picture}
+use Rattle.vid_plane.proofs.CellLemmas.{places_apart}
 
 -- sizes stay
 pub width-with_pixel : (p : Picture) (x y v : ℕ) → (with_pixel p x y v).width ≡ p.width

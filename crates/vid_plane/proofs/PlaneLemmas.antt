@@ -1,10 +1,10 @@
 -- What the calls of a plane give and leave, by its picture p: w, h, b and s are the plane's fields. The calls of `Plane` cite these.
-use Rattle.std.proofs.Common.{◌≡◌, ◌∙◌, ℕ, zero, suc, ◌+◌, ◌-◌, ◌*◌, ◌<◌, ◌≤◌, Bool, true, false, List, [], ◌∷◌, length, get_or, set, take, drop, map, refl, sym, ap, subst, arith, length-set}
+use Rattle.std.proofs.Common.{◌≡◌, ◌∙◌, ℕ, ◌+◌, ◌<◌, ◌≤◌, Bool, true, false, List, [], length, get_or, set, take, drop, map, sym, ap, subst, arith, length-set}
 use Rattle.std.specs.List.{range_with_len}
 use Rattle.std.proofs.lemmas.List.{places}
 use Rattle.std.proofs.lemmas.List.FromFn.{fill_by_all, get_or-map-range_with_len, length-map-range_with_len}
 use Rattle.vid_plane.specs.Picture.{Picture, pixel, run_of, with_pixel, with_row, with_rows, sealed_picture, IsPicture}
-use Rattle.vid_plane.specs.Border.{cell, shown, written, nearest, inner, IsFramed, IsPlane}
+use Rattle.vid_plane.specs.Border.{cell, shown, written, nearest, inner, IsPlane}
 use Rattle.vid_plane.proofs.BorderLemmas.{pixel-shown, cell_within, run_within, with_pixel-shown, with_row-shown, with_rows-shown, all_written, IsPicture-shown, framed_pixel, IsPlane-unsealed}
 use Rattle.vid_plane.proofs.PictureLemmas.{width-with_pixel, height-with_pixel}
 

@@ -1,5 +1,5 @@
 -- (private) Which value a store or a frame has once a part that it lent is given back.
-use Rattle.std.specs.Prelude.{ℕ, ◌≡◌}
+use Rattle.std.specs.Prelude.{ℕ}
 use Rattle.std.specs.Borrow.{follows, MutBor, Fml}
 use Rattle.vid_plane.specs.Picture.{Picture}
 use Rattle.vid_plane.specs.Frames.{References, with_plane}

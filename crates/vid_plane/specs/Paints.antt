@@ -1,5 +1,5 @@
 -- What a write leaves: old and new are pictures, and f is the sample in each place of a rectangle of n columns from x on and m rows from y on.
-use Rattle.std.specs.Prelude.{◌≡◌, ℕ, ◌+◌, ◌<◌, ◌≤◌, Bool, false, length}
+use Rattle.std.specs.Prelude.{◌≡◌, ℕ, ◌+◌, ◌<◌, ◌≤◌, length}
 use Rattle.vid_plane.specs.Picture.{Picture, pixel}
 
 -- the rectangle was painted, and no other sample changed; in it f takes the column and the row from its lower left corner on

@@ -1,5 +1,5 @@
 -- What a window shows: the plane that it stands on, and the column and the row of its lower left sample, counted as the plane's.
-use Rattle.std.specs.Prelude.{ℕ, ℤ, pos, ◌-ℤ◌}
+use Rattle.std.specs.Prelude.{ℤ, pos, ◌-ℤ◌}
 use Rattle.vid_plane.specs.Picture.{Picture}
 use Rattle.vid_plane.specs.declared.window.Window.{Window}
 

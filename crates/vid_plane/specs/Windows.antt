@@ -1,5 +1,5 @@
 -- Samples at coordinates that may lie outside the plane (Theora I, 7.9.1): each is clamped to the nearest that the plane has.
-use Rattle.std.specs.Prelude.{◌≡◌, ℕ, ℤ, pos, negsuc, ◌+ℤ◌, ◌≤ℤ◌, ◌+◌, ◌-◌, Bool, true, List, map, min}
+use Rattle.std.specs.Prelude.{◌≡◌, ℕ, ℤ, pos, negsuc, ◌+ℤ◌, ◌≤ℤ◌, ◌+◌, ◌-◌, true, List, map, min}
 use Rattle.std.specs.List.{range_with_len}
 use Rattle.vid_plane.specs.Picture.{Picture, pixel}
 

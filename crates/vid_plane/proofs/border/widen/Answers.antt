@@ -1,7 +1,6 @@
-use Rattle.std.proofs.Common.{◌≡◌, ◌∙◌, ◌+◌, ◌-◌, ◌*◌, ◌<◌, ◌≤◌, ◌≢◌, ◌⊎◌, inl, inr, ℕ, ap, arith, get_or, replicate, length}
+use Rattle.std.proofs.Common.{◌≡◌, ◌∙◌, ◌+◌, ◌-◌, ◌*◌, ◌<◌, ◌≤◌, ◌⊎◌, inl, inr, ap, arith, get_or, length}
 use Rattle.std.proofs.lemmas.Bool.{cases_lt}
 use Rattle.std.proofs.lemmas.List.{length-replicate}
-use Rattle.vid_plane.specs.Border.{nearest}
 use Rattle.vid_plane.proofs.CellLemmas.{row_before, row_behind}
 use Rattle.vid_plane.proofs.BorderLemmas.{widened, widened_others}
 use Rattle.vid_plane.proofs.border.widen.Goals as goal

@@ -1,4 +1,4 @@
-use Rattle.std.proofs.Common.{◌≡◌, ◌+◌, ◌*◌, ◌<◌, ◌≤◌, ℕ, get_or, length}
+use Rattle.std.proofs.Common.{◌≡◌, ◌+◌, ◌<◌, ◌≤◌, ℕ, get_or}
 use Rattle.vid_plane.specs.Border.{cell, nearest}
 use Rattle.vid_plane.proofs.border.widen_rows.Given as goal
 

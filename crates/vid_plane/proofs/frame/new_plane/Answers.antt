@@ -1,4 +1,4 @@
-use Rattle.std.proofs.Common.{arith, ap}
+use Rattle.std.proofs.Common.{arith}
 use Rattle.vid_plane.specs.Frames.{blank_plane}
 use Rattle.vid_plane.proofs.FrameLemmas.{plane_width_most, plane_height_most, plane_small}
 use Rattle.vid_plane.proofs.frame.new_plane.Goals as goal

@@ -1,4 +1,4 @@
-use Rattle.std.proofs.Common.{◌≡◌, ◌∙◌, ◌+◌, ap, arith, List, ℕ, map, get_or}
+use Rattle.std.proofs.Common.{◌∙◌, ◌+◌, ap, arith, List, ℕ, map, get_or}
 use Rattle.std.specs.List.{range_with_len}
 use Rattle.vid_plane.specs.Picture.{Picture}
 use Rattle.vid_plane.proofs.BorderLemmas.{run_within}

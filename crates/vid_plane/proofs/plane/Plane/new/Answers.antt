@@ -1,4 +1,4 @@
-use Rattle.std.proofs.Common.{◌≡◌, ◌∙◌, ◌+◌, ◌*◌, ℕ, true, arith, ap, length, replicate, sym, subst, List}
+use Rattle.std.proofs.Common.{◌∙◌, ◌+◌, ◌*◌, ℕ, true, ap, length, sym, subst, List}
 use Rattle.std.proofs.lemmas.List.{length-replicate}
 use Rattle.vid_plane.specs.Border.{IsFramed, shown}
 use Rattle.vid_plane.proofs.BorderLemmas.{IsFramed-zeros, shown-zeros}

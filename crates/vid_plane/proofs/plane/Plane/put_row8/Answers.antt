@@ -1,8 +1,8 @@
-use Rattle.std.proofs.Common.{◌≡◌, ◌∙◌, arith, rules, sym, subst, ap, length, get_or, ℕ, List}
+use Rattle.std.proofs.Common.{◌≡◌, ◌∙◌, arith, rules, sym, subst, ap, length, get_or, ℕ}
 use Rattle.vid_plane.specs.Picture.{Picture, with_row}
 use Rattle.vid_plane.specs.Paints.{Paints}
-use Rattle.vid_plane.specs.Border.{written, shown}
-use Rattle.vid_plane.proofs.BorderLemmas.{whole_again, length-written}
+use Rattle.vid_plane.specs.Border.{written}
+use Rattle.vid_plane.proofs.BorderLemmas.{whole_again}
 use Rattle.vid_plane.proofs.PlaneLemmas.{picture_is, put_is}
 use Rattle.vid_plane.proofs.PaintLemmas.{Paints-with_row}
 use Rattle.vid_plane.proofs.plane.Plane.put_row8.Goals as goal

@@ -1,4 +1,4 @@
-use Rattle.std.proofs.Common.{◌≡◌, ◌∙◌, ◌<◌, ◌+◌, ◌*◌, ℕ, List, [], length, get_or, arith, rules, ap, sym, subst}
+use Rattle.std.proofs.Common.{◌≡◌, ◌∙◌, ◌<◌, ◌+◌, ◌*◌, ℕ, [], length, get_or, arith, rules, ap, sym, subst}
 use Rattle.vid_plane.specs.Picture.{Picture, with_rows}
 use Rattle.vid_plane.specs.Paints.{Paints}
 use Rattle.vid_plane.proofs.BorderLemmas.{all_written, written_step, written_last, whole_again, each_of_eight}

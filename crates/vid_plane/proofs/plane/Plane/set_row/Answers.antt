@@ -1,4 +1,4 @@
-use Rattle.std.proofs.Common.{◌≡◌, ◌<◌, ◌∙◌, arith, rules, sym, subst, ap, length, get_or, ℕ, List}
+use Rattle.std.proofs.Common.{◌∙◌, arith, rules, sym, subst, ap, length, get_or, ℕ}
 use Rattle.vid_plane.specs.Picture.{Picture, with_row}
 use Rattle.vid_plane.specs.Paints.{Paints}
 use Rattle.vid_plane.specs.Border.{written}

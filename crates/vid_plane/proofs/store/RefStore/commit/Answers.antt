@@ -1,6 +1,5 @@
-use Rattle.std.proofs.Common.{◌≡◌, sym, subst, true}
+use Rattle.std.proofs.Common.{sym, subst, true}
 use Rattle.vid_plane.specs.Frames.{IsFrameOf, AreOf}
-use Rattle.vid_plane.specs.declared.store.Kept.{Kept}
 use Rattle.vid_plane.proofs.FrameLemmas.{AreOf-kept, IsFrameOf-sealed}
 use Rattle.vid_plane.proofs.store.RefStore.commit.Goals as goal
 use Rattle.vid_plane.proofs.store.RefStore.commit.Goals.{then-intra, else-intra, in-Prev, in_default}

@@ -1,4 +1,4 @@
-use Rattle.std.proofs.Common.{◌∙◌, ◌+◌, ap, sym, map}
+use Rattle.std.proofs.Common.{◌∙◌, ◌+◌, ap, map}
 use Rattle.std.specs.List.{range_with_len}
 use Rattle.vid_plane.specs.Picture.{pixel}
 use Rattle.vid_plane.specs.Border.{nearest}
