@@ -48,25 +48,23 @@ fn memory_is_found_for_stores(rt: HostRuntime) -> Result<(), Fail> {
 fn windows_at_the_outermost_places_show_the_corners(rt: HostRuntime) -> Result<(), Fail> {
     let mut frame = frame(&rt, rt.alloc(), 2, 1, 0);
     for (x, y, v) in [(0, 0, 11), (31, 0, 22), (0, 15, 33), (31, 15, 44)] {
-        if x < frame.y.width() && y < frame.y.height() {
-            frame.y.set(x, y, v);
-        }
+        assert!(rt; x < frame.y.width() && y < frame.y.height());
+        frame.y.set(x, y, v);
     }
     assert!(rt; !frame.y.sealed());
     frame.y.seal();
-    if frame.y.sealed() && frame.y.width() == 32 && frame.y.height() == 16 {
-        assert_eq!(rt; frame.y.window(-16, -16).at(0, 0), 11);
-        assert_eq!(rt; frame.y.window(40, -16).at(7, 0), 22);
-        assert_eq!(rt; frame.y.window(-16, 24).at(0, 7), 33);
-        assert_eq!(rt; frame.y.window(40, 24).at(7, 7), 44);
-        let row = frame.y.window(27, 20).row(3);
-        assert_eq!(rt; row.as_slice(), [0, 0, 0, 0, 44, 44, 44, 44].as_slice());
-        let block = frame.y.window(-4, -7).block();
-        assert_eq!(rt;
-            block[7].as_slice(),
-            [11, 11, 11, 11, 11, 0, 0, 0].as_slice()
-        );
-    }
+    assert!(rt; frame.y.sealed() && frame.y.width() == 32 && frame.y.height() == 16);
+    assert_eq!(rt; frame.y.window(-16, -16).at(0, 0), 11);
+    assert_eq!(rt; frame.y.window(40, -16).at(7, 0), 22);
+    assert_eq!(rt; frame.y.window(-16, 24).at(0, 7), 33);
+    assert_eq!(rt; frame.y.window(40, 24).at(7, 7), 44);
+    let row = frame.y.window(27, 20).row(3);
+    assert_eq!(rt; row.as_slice(), [0, 0, 0, 0, 44, 44, 44, 44].as_slice());
+    let block = frame.y.window(-4, -7).block();
+    assert_eq!(rt;
+        block[7].as_slice(),
+        [11, 11, 11, 11, 11, 0, 0, 0].as_slice()
+    );
     Ok(())
 }
 
@@ -101,12 +99,10 @@ fn frames_become_previous_and_golden_in_turn(rt: HostRuntime) -> Result<(), Fail
     for (sample, intra, want) in rows {
         let painting = store.paint();
         let now = painting.now;
-        if 0 < now.y.width() && 0 < now.y.height() {
-            now.y.set(0, 0, sample);
-        }
-        if intra || store.started() {
-            store.commit(intra);
-        }
+        assert!(rt; 0 < now.y.width() && 0 < now.y.height());
+        now.y.set(0, 0, sample);
+        assert!(rt; intra || store.started());
+        store.commit(intra);
         assert!(rt; shown(&store) == Some(want), "frame {sample}");
     }
     Ok(())
@@ -116,23 +112,22 @@ fn frames_become_previous_and_golden_in_turn(rt: HostRuntime) -> Result<(), Fail
 fn rows_and_blocks_stand_where_they_were_put(rt: HostRuntime) -> Result<(), Fail> {
     let mut frame = frame(&rt, rt.alloc(), 1, 1, 3);
     let y = &mut frame.y;
-    if y.width() == 16 && y.height() == 16 {
-        y.set_block(8, 4, &[[7; 8]; 8]);
-        y.put_row8(8, 5, [1, 2, 3, 4, 5, 6, 7, 8]);
-        y.put_two(9, 11, [90, 91]);
-        assert_eq!(rt;
-            y.row8(8, 5).as_slice(),
-            [1, 2, 3, 4, 5, 6, 7, 8].as_slice()
-        );
-        assert_eq!(rt; y.four(8, 11).as_slice(), [7, 90, 91, 7].as_slice());
-        assert_eq!(rt;
-            y.row8(4, 11).as_slice(),
-            [0, 0, 0, 0, 7, 90, 91, 7].as_slice()
-        );
-        y.set_row(0, &[9; 16]);
-        assert_eq!(rt; y.row(0), [9; 16].as_slice());
-        assert_eq!(rt; y.sample(15, 0), 9);
-        assert_eq!(rt; y.sample(15, 12), 0);
-    }
+    assert!(rt; y.width() == 16 && y.height() == 16);
+    y.set_block(8, 4, &[[7; 8]; 8]);
+    y.put_row8(8, 5, [1, 2, 3, 4, 5, 6, 7, 8]);
+    y.put_two(9, 11, [90, 91]);
+    assert_eq!(rt;
+        y.row8(8, 5).as_slice(),
+        [1, 2, 3, 4, 5, 6, 7, 8].as_slice()
+    );
+    assert_eq!(rt; y.four(8, 11).as_slice(), [7, 90, 91, 7].as_slice());
+    assert_eq!(rt;
+        y.row8(4, 11).as_slice(),
+        [0, 0, 0, 0, 7, 90, 91, 7].as_slice()
+    );
+    y.set_row(0, &[9; 16]);
+    assert_eq!(rt; y.row(0), [9; 16].as_slice());
+    assert_eq!(rt; y.sample(15, 0), 9);
+    assert_eq!(rt; y.sample(15, 12), 0);
     Ok(())
 }
