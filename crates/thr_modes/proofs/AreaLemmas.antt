@@ -7,8 +7,7 @@ use Rattle.std.proofs.lemmas.List.{length-map, map-append, take_at}
 use Rattle.std.proofs.lemmas.List.Elements.{All-map}
 use Rattle.vid_base.specs.declared.shape.Shape.{Shape}
 use Rattle.vid_geom.specs.declared.block.MacroBlock.{MacroBlock}
-use Rattle.vid_geom.specs.declared.grid.Cell.{Cell}
-use Rattle.vid_geom.specs.Squares.{cells}
+use Rattle.vid_geom.specs.Squares.{Cell, cells}
 use Rattle.vid_geom.specs.CodedOrder.{place_of}
 use Rattle.vid_geom.specs.MacroBlocks.{Area, area_at, area_blocks, columns_in, rows_in, filled, macro_blocks, macro_grid, IsMacroBlock}
 use Rattle.vid_geom.proofs.ListLemmas.{All-at}

@@ -17,7 +17,7 @@ pub enum ModeCoding {
 }
 
 /// The modes by rank under schemes 1 to 6.
-const ALPHABETS: [[u8; 8]; 6] = [
+static ALPHABETS: [[u8; 8]; 6] = [
     [3, 4, 2, 0, 1, 5, 6, 7],
     [3, 4, 0, 2, 1, 5, 6, 7],
     [3, 2, 4, 0, 1, 5, 6, 7],

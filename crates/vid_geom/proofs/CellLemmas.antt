@@ -7,9 +7,7 @@ use Rattle.std.proofs.Math.Nat.{mul_comm, div-add-mod}
 use Rattle.std.proofs.lemmas.Nat.{div_below, mod_below, row_fits, column_fits, mul-le, div-add-mod'}
 use Rattle.std.proofs.lemmas.Bool.Decides.{nat_tests}
 use Rattle.std.proofs.lemmas.List.Elements.{All-map, filter_passes}
-use Rattle.vid_geom.specs.declared.grid.Cell.{Cell}
-use Rattle.vid_geom.specs.declared.grid.Grid.{Grid}
-use Rattle.vid_geom.specs.Squares.{cell, side_of, path_of, moved, inside, square, squares_across, squares_up, square_row, squares, joined, cells}
+use Rattle.vid_geom.specs.Squares.{Cell, Grid, cell, side_of, path_of, moved, inside, square, squares_across, squares_up, square_row, squares, joined, cells}
 use Rattle.vid_geom.specs.CodedOrder.{ranges_from}
 use Rattle.vid_geom.proofs.ListLemmas.{Contains-map, Contains-filter, Contains-flat_map, Contains-range, All-flat_map, length-flat_map_same, flat_map_split, joined-append}
 use Rattle.std.proofs.lemmas.List.FromFn.{length-range_with_len, length-map-range_with_len, take-map-range_with_len, get_or-map-range_with_len}

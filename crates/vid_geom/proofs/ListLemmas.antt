@@ -1,12 +1,13 @@
 -- Lists that are joined, filtered and counted: what an element's place in them is. The lemmas on squares cite these.
 use Rattle.std.proofs.Common.{◌≡◌, ◌∙◌, ℕ, zero, suc, ◌+◌, ◌-◌, ◌*◌, ◌<◌, Bool, true, false, cond, List, [], ◌∷◌, ◌++◌, length, get_or, map, filter, Some, slice_get, refl, sym, ap, subst, arith, length-append}
 use Rattle.std.specs.List.{flat_map, range_with_len, All, Contains}
+use Rattle.std.specs.Option.{option_map}
 use Rattle.std.proofs.lemmas.List.{map-append, get_or-map, length-map}
 use Rattle.std.proofs.lemmas.List.Elements.{All-nil, All-append, All-head, All-tail, Contains-append_left, Contains-append_right}
 use Rattle.std.proofs.lemmas.List.Folds.{flat_map-map}
 use Rattle.std.proofs.lemmas.List.FromFn.{length-range_with_len, get_or-range_with_len}
 use Rattle.std.proofs.lemmas.Grind.{flat_map-append}
-use Rattle.std.proofs.lemmas.Option.{slice_get_within, get_or_from_slice_get, slice_get-get_or}
+use Rattle.std.proofs.lemmas.Option.{slice_get_within, get_or_from_slice_get, slice_get-get_or, slice_get-map, slice_get_read}
 use Rattle.vid_geom.specs.Squares.{joined}
 
 -- a range in two parts
@@ -140,3 +141,15 @@ All-flat_map P f (x ∷ xs) h = All-append P (f x) (flat_map f xs) (All-head (λ
 -- what holds of each element holds of the one at a place
 pub All-at : {X : Type 0} (P : X → Type 0) (xs : List X) (k : ℕ) (x : X) → slice_get xs k ≡ Some x → All P xs → P x
 All-at P xs k x h all = subst P (get_or_from_slice_get xs k x x h) (all k x (slice_get_within xs k x h))
+
+-- elements that stand for others are as many
+pub length_as : {X Y : Type 0} (f : X → Y) (xs : List X) (ys : List Y) → map f xs ≡ ys → length xs ≡ length ys
+length_as f xs ys is = omega (arith, ap length is, length-map xs f)
+
+-- an element that was read stands for the one at its place
+pub read_as : {X Y : Type 0} (f : X → Y) (xs : List X) (ys : List Y) (k : ℕ) (x : X) → map f xs ≡ ys → k < length ys → x ≡ get_or xs k x → slice_get ys k ≡ Some (f x)
+read_as f xs ys k x is within read = rw (← is) (slice_get-map f xs k ∙ ap (option_map f) (slice_get_read xs (length xs) k x refl (omega (arith, length_as f xs ys is)) read))
+
+-- the element at a place stands for the one there, whatever stands past the ends
+pub at_as : {X Y : Type 0} (f : X → Y) (xs : List X) (ys : List Y) (k : ℕ) (d : X) (e : Y) → map f xs ≡ ys → k < length ys → get_or ys k e ≡ f (get_or xs k d)
+at_as f xs ys k d e is within = rw (← is) (get_or-map f xs k d e (omega (arith, length_as f xs ys is)))

@@ -13,8 +13,7 @@ use Rattle.std.proofs.lemmas.Simd.{map-map}
 use Rattle.std.proofs.lemmas.List.Folds.{flat_map-map}
 use Rattle.vid_base.specs.declared.shape.Shape.{Shape}
 use Rattle.vid_geom.specs.declared.block.Block.{Block}
-use Rattle.vid_geom.specs.declared.grid.Cell.{Cell}
-use Rattle.vid_geom.specs.Squares.{cell, inside, moved, cells}
+use Rattle.vid_geom.specs.Squares.{Cell, cell, inside, moved, cells}
 use Rattle.vid_geom.specs.CodedOrder.{block_columns, block_rows, block_of, plane_blocks, IsBlock, IsPlaceIn, order_of, place_of, NamesEachOnce}
 use Rattle.vid_geom.specs.MacroBlocks.{macro_grid, columns_in, rows_in, raster, blocks_in, area_at, macro_blocks, area_blocks, macro_order, filled, IsMacroBlock}
 use Rattle.vid_geom.proofs.ListLemmas.{Contains-map, Contains-flat_map, Contains-range, All-flat_map, All-at, map-range_with_len-add}

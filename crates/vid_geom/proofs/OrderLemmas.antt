@@ -9,9 +9,7 @@ use Rattle.std.proofs.lemmas.List.Sums.{position_or_len_is}
 use Rattle.std.proofs.lemmas.Option.{slice_get-map, slice_get_within, get_or_from_slice_get, slice_get-get_or, same_Some}
 use Rattle.vid_base.specs.declared.shape.Shape.{Shape}
 use Rattle.vid_geom.specs.declared.block.Block.{Block}
-use Rattle.vid_geom.specs.declared.grid.Cell.{Cell}
-use Rattle.vid_geom.specs.declared.grid.Grid.{Grid}
-use Rattle.vid_geom.specs.Squares.{cell, inside, squares, joined, cells}
+use Rattle.vid_geom.specs.Squares.{Cell, Grid, cell, inside, squares, joined, cells}
 use Rattle.vid_geom.specs.CodedOrder.{block_grid, plane_blocks, blocks_before, block_of, IsBlock, IsPlaceIn, superblocks_of, superblocks, order_of, same_block, place_of, NamesEachOnce}
 use Rattle.vid_geom.proofs.ListLemmas.{joined-append, joined-map-map, slice_get-append_left, slice_get-append_right, slice_get-Contains, Contains-slice_get}
 use Rattle.vid_geom.proofs.NumberLemmas.{Numbered, Numbered-append, Numbered-map, number_at}

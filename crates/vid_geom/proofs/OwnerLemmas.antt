@@ -7,8 +7,7 @@ use Rattle.std.proofs.lemmas.Nat.{same_from_place}
 use Rattle.std.proofs.lemmas.Option.{slice_get-map, slice_get_within, slice_get-get_or, same_Some}
 use Rattle.vid_base.specs.declared.shape.Shape.{Shape}
 use Rattle.vid_geom.specs.declared.block.Block.{Block}
-use Rattle.vid_geom.specs.declared.grid.Cell.{Cell}
-use Rattle.vid_geom.specs.Squares.{cell, cells}
+use Rattle.vid_geom.specs.Squares.{Cell, cell, cells}
 use Rattle.vid_geom.specs.CodedOrder.{IsBlock, order_of, place_of}
 use Rattle.vid_geom.specs.MacroBlocks.{macro_grid, Area, area_at, area_blocks, macro_blocks}
 use Rattle.vid_geom.proofs.ListLemmas.{Contains-map, slice_get-Contains}

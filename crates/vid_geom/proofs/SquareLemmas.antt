@@ -7,11 +7,7 @@ use Rattle.std.proofs.lemmas.Nat.{div-mul-add, mod-mul-add}
 use Rattle.std.proofs.Math.Nat.{mul_comm}
 use Rattle.std.proofs.lemmas.List.Elements.{All-filter, All-weaker, All-from_recursion}
 use Rattle.std.proofs.lemmas.Bool.Decides.{nat_tests}
-use Rattle.vid_geom.specs.declared.grid.Cell.{Cell}
-use Rattle.vid_geom.specs.declared.grid.Grid.{Grid}
-use Rattle.vid_geom.specs.declared.grid.Walk.{Walk}
-use Rattle.vid_geom.specs.declared.grid.Walk.TheVariants.{Hilbert, Clockwise}
-use Rattle.vid_geom.specs.Squares.{cell, side_of, path_of, moved, inside, square, squares_across, squares_up, square_row, squares, joined, cells}
+use Rattle.vid_geom.specs.Squares.{Cell, Grid, Walk, Hilbert, Clockwise, cell, side_of, path_of, moved, inside, square, squares_across, squares_up, square_row, squares, joined, cells}
 use Rattle.vid_geom.proofs.ListLemmas.{filter_agree, filter-map, joined-map, joined-flat_map}
 use Rattle.vid_geom.proofs.NumberLemmas.{Numbered, Numbered-map, Numbered-flat_map}
 

@@ -7,9 +7,7 @@ use Rattle.std.proofs.lemmas.List.{length-map, take_more, take_all, append-nil, 
 use Rattle.std.proofs.lemmas.Option.{slice_get_within, same_Some}
 use Rattle.vid_base.specs.declared.shape.Shape.{Shape}
 use Rattle.vid_geom.specs.declared.block.Block.{Block}
-use Rattle.vid_geom.specs.declared.grid.Grid.{Grid}
-use Rattle.vid_geom.specs.declared.grid.Walk.TheVariants.{Hilbert}
-use Rattle.vid_geom.specs.Squares.{inside, joined, moved, path_of, side_of, square, square_row, squares, squares_across, squares_up}
+use Rattle.vid_geom.specs.Squares.{Grid, Hilbert, inside, joined, moved, path_of, side_of, square, square_row, squares, squares_across, squares_up}
 use Rattle.vid_geom.specs.CodedOrder.{block_grid, plane_blocks, blocks_before, block_of, superblocks_of, superblocks, order_of, ranges_from, superblock_ranges}
 use Rattle.vid_geom.proofs.ListLemmas.{All-flat_map, joined-append, slice_get-append_left, slice_get-append_right}
 use Rattle.vid_geom.proofs.NumberLemmas.{slice_get-ranges_from, length-ranges_from, ranges_from-append, ranges_from-map}

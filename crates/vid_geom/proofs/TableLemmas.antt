@@ -8,10 +8,9 @@ use Rattle.std.proofs.lemmas.List.{map_more, take_all}
 use Rattle.std.proofs.lemmas.List.Elements.{All-get_or, filter-append}
 use Rattle.std.proofs.lemmas.List.FromFn.{map-range_with_len_more}
 use Rattle.std.proofs.lemmas.Nat.{mul-add-lt, same_from_place}
+use Rattle.std.proofs.lemmas.Simd.{map-map}
 use Rattle.std.proofs.lemmas.Option.{slice_get-get_or, slice_get_within, get_or_from_slice_get}
-use Rattle.vid_geom.specs.declared.grid.Cell.{Cell}
-use Rattle.vid_geom.specs.declared.grid.Grid.{Grid}
-use Rattle.vid_geom.specs.Squares.{cell, side_of, path_of, moved, inside, only_inside, square, joined, cells}
+use Rattle.vid_geom.specs.Squares.{Cell, Grid, cell, side_of, path_of, moved, inside, only_inside, square, joined, cells}
 use Rattle.vid_geom.specs.Tables.{raster_place, AreTables, HasPlaces}
 use Rattle.vid_geom.proofs.ListLemmas.{joined-append, range-append, slice_get-Contains}
 use Rattle.vid_geom.proofs.NumberLemmas.{number_at}
@@ -19,15 +18,16 @@ use Rattle.vid_geom.proofs.SquareLemmas.{number_in, cells_counted}
 use Rattle.vid_geom.proofs.CellLemmas.{cells_inside, cells_contain}
 
 -- one cell of a square more
-pub square_more : (g : Grid) (right up : ℕ) (path : List Cell) (i : ℕ) (d : Cell) → i < length path
-    → filter (inside g) (map (moved right up) (take (i + 1) path)) ≡ filter (inside g) (map (moved right up) (take i path)) ++ only_inside g (moved right up (get_or path i d))
-square_more g right up path i d h = ap (filter (inside g)) (map_more (moved right up) path i d h) ∙ filter-append (inside g) (map (moved right up) (take i path)) (moved right up (get_or path i d) ∷ [])
+pub square_more : {X : Type 0} (g : Grid) (right up : ℕ) (f : X → Cell) (path : List X) (i : ℕ) (d : X) → i < length path
+    → filter (inside g) (map (λ x. moved right up (f x)) (take (i + 1) path)) ≡ filter (inside g) (map (λ x. moved right up (f x)) (take i path)) ++ only_inside g (moved right up (f (get_or path i d)))
+square_more g right up f path i d h =
+    ap (filter (inside g)) (map_more (λ x. moved right up (f x)) path i d h) ∙ filter-append (inside g) (map (λ x. moved right up (f x)) (take i path)) (moved right up (f (get_or path i d)) ∷ [])
 
 -- all cells of a square
-pub square_all : (g : Grid) (col row right up : ℕ) (path : List Cell) (i : ℕ) → length path ≤ i → path ≡ path_of g.walk → right ≡ side_of g.walk * col → up ≡ side_of g.walk * row
-    → filter (inside g) (map (moved right up) (take i path)) ≡ square g col row
+pub square_all : {X : Type 0} (g : Grid) (col row right up : ℕ) (f : X → Cell) (path : List X) (i : ℕ) → length path ≤ i → map f path ≡ path_of g.walk → right ≡ side_of g.walk * col → up ≡ side_of g.walk * row
+    → filter (inside g) (map (λ x. moved right up (f x)) (take i path)) ≡ square g col row
 unfolding square
-square_all g col row right up path i h p r u = rw (take_all i path h, p, r, u) refl
+square_all g col row right up f path i h p r u = rw (take_all i path h, ← map-map (moved right up) f path, p, r, u) refl
 
 -- one square of a row more
 pub joined_more : {X : Type 0} (f : ℕ → List X) (n : ℕ) → joined (map f (range_with_len 0 (n + 1))) ≡ joined (map f (range_with_len 0 n)) ++ f n

@@ -4,10 +4,7 @@ use Rattle.std.specs.List.{position_or_len, All, Contains}
 use Rattle.vid_base.specs.declared.shape.Shape.{Shape}
 use Rattle.vid_base.specs.Sizes.{plane_width, plane_height}
 use Rattle.vid_geom.specs.declared.block.Block.{Block}
-use Rattle.vid_geom.specs.declared.grid.Cell.{Cell}
-use Rattle.vid_geom.specs.declared.grid.Grid.{Grid}
-use Rattle.vid_geom.specs.declared.grid.Walk.TheVariants.{Hilbert}
-use Rattle.vid_geom.specs.Squares.{squares, joined}
+use Rattle.vid_geom.specs.Squares.{Cell, Grid, Hilbert, squares, joined}
 
 -- columns of blocks in a plane; a block is 8 by 8 samples
 abbrev pub block_columns : Shape → ℕ → ℕ

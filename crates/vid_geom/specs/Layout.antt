@@ -1,9 +1,7 @@
 -- What the parts of a layout hold (own).
 use Rattle.std.specs.Prelude.{◌≡◌, List}
 use Rattle.vid_base.specs.declared.shape.Shape.{Shape}
-use Rattle.vid_geom.specs.declared.grid.Cell.{Cell}
-use Rattle.vid_geom.specs.declared.grid.Grid.{Grid}
-use Rattle.vid_geom.specs.Squares.{cells}
+use Rattle.vid_geom.specs.Squares.{Cell, Grid, cells}
 use Rattle.vid_geom.specs.CodedOrder.{block_grid}
 use Rattle.vid_geom.specs.MacroBlocks.{macro_grid}
 

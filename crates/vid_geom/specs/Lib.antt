@@ -4,3 +4,4 @@ pub mod CodedOrder
 pub mod MacroBlocks
 pub mod ByBlock
 pub mod Layout
+pub mod Views

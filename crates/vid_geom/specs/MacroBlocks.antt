@@ -5,10 +5,7 @@ use Rattle.vid_base.specs.declared.shape.Shape.{Shape}
 use Rattle.vid_base.specs.Sizes.{plane_width, plane_height}
 use Rattle.vid_geom.specs.declared.block.Block.{Block}
 use Rattle.vid_geom.specs.declared.block.MacroBlock.{MacroBlock}
-use Rattle.vid_geom.specs.declared.grid.Cell.{Cell}
-use Rattle.vid_geom.specs.declared.grid.Grid.{Grid}
-use Rattle.vid_geom.specs.declared.grid.Walk.TheVariants.{Clockwise}
-use Rattle.vid_geom.specs.Squares.{cell, moved, cells}
+use Rattle.vid_geom.specs.Squares.{Cell, Grid, Clockwise, cell, moved, cells}
 use Rattle.vid_geom.specs.CodedOrder.{block_of, place_of}
 
 -- the macro blocks of a frame as a grid whose squares are those of the luma superblocks

@@ -3,10 +3,22 @@
 use Rattle.std.specs.Prelude.{ℕ, ◌+◌, ◌*◌, ◌&&◌, nat_lt, Bool, List, [], ◌∷◌, map, filter, if◌then◌else◌}
 use Rattle.std.specs.List.{flat_map, range_with_len}
 use Rattle.std.specs.Int.{div_ceil}
-use Rattle.vid_geom.specs.declared.grid.Cell.{Cell}
-use Rattle.vid_geom.specs.declared.grid.Grid.{Grid}
-use Rattle.vid_geom.specs.declared.grid.Walk.{Walk}
-use Rattle.vid_geom.specs.declared.grid.Walk.TheVariants.{Hilbert, Clockwise}
+
+-- a place of a grid: so many cells stand to the left of it, and so many below it
+pub record Cell : Type 0 where
+  pub col : ℕ
+  pub row : ℕ
+
+-- the way through the cells of a square: through the 16 blocks of a superblock, or through its 4 macro blocks
+pub data Walk : Type 0 where
+  Hilbert : Walk
+  Clockwise : Walk
+
+-- a grid of cells that is walked through square by square
+pub record Grid : Type 0 where
+  pub walk : Walk
+  pub width : ℕ
+  pub height : ℕ
 
 -- the cell in this column and row
 abbrev pub cell : ℕ → ℕ → Cell

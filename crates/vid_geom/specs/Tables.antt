@@ -1,8 +1,6 @@
 -- What the tables of a plane hold (own).
 use Rattle.std.specs.Prelude.{ℕ, ◌≡◌, ◌+◌, ◌*◌, ◌<◌, ◌≤◌, ◌^◌, List, length, get_or}
-use Rattle.vid_geom.specs.declared.grid.Cell.{Cell}
-use Rattle.vid_geom.specs.declared.grid.Grid.{Grid}
-use Rattle.vid_geom.specs.Squares.{cell, cells}
+use Rattle.vid_geom.specs.Squares.{Cell, Grid, cell, cells}
 
 -- a grid is no larger than that of a frame's blocks
 abbrev pub IsSmall : Grid → Type 0

@@ -4,6 +4,7 @@ ghost use Rattle.vid_geom.specs.Squares.{joined, cell, cells, moved};
 ghost use Rattle.vid_geom.specs.CodedOrder.{block_columns, block_rows, block_grid, plane_blocks, blocks_before, block_of, IsBlock, IsPlaceIn, NamesEachOnce, order_of, place_of, superblocks, superblock_ranges};
 ghost use Rattle.vid_geom.specs.ByBlock.{OwnBlocks};
 ghost use Rattle.vid_geom.specs.MacroBlocks.{columns_in, rows_in, blocks_in, filled, macro_blocks, macro_grid, macro_order, IsMacroBlock};
+ghost use Rattle.vid_geom.specs.Views.{cell_of};
 
 use crate::block::{Block, MacroBlock};
 use crate::grid::Cell;
@@ -26,13 +27,15 @@ pub struct Geom {
 
 impl Model for Geom {
     ghost use Rattle.vid_base.specs.declared.shape.Shape.{Shape};
+    ghost use Rattle.std.specs.Prelude.{map};
     ghost use Rattle.vid_geom.specs.Layout.{IsLayout};
+    ghost use Rattle.vid_geom.specs.Views.{cell_of};
 
     ghost Value = { Shape };
 
     ghost view = { λ g. g.shape };
 
-    ghost invariant = { λ g. IsLayout g.shape g.luma g.chroma g.macro_blocks.items };
+    ghost invariant = { λ g. IsLayout g.shape g.luma g.chroma (map cell_of g.macro_blocks.items) };
 }
 
 impl Geom {
@@ -190,7 +193,7 @@ impl Geom {
     // The column and row of a macro block.
     fn macro_cell(&self, m: u32) -> Cell
         requires { m < length (macro_blocks self.now) }
-        ensures value { slice_get (cells (macro_grid self.now)) m ≡ Some result }
+        ensures value { slice_get (cells (macro_grid self.now)) m ≡ Some (cell_of result) }
         ensures column { result.col < self.now.fmbw }
         ensures row { result.row < self.now.fmbh }
     {
@@ -220,7 +223,7 @@ impl Geom {
         requires plane { pli < 3 }
         requires column { at.col < self.now.fmbw }
         requires row { at.row < self.now.fmbh }
-        ensures { result ≡ filled (map (place_of self.now) (blocks_in self.now.pf pli at)) }
+        ensures { result ≡ filled (map (place_of self.now) (blocks_in self.now.pf pli (cell_of at))) }
     {
         let first = self.place_in(pli, at, 0, 0);
         if rows_in(self.shape.pf, pli) == 1 {

@@ -1,8 +1,9 @@
 // A grid of cells and the walks through its squares (Theora I, 2.3 and 2.4).
-ghost use Rattle.std.specs.Prelude.{◌≡◌, ◌<◌, ◌^◌, Some, length, slice_get};
+ghost use Rattle.std.specs.Prelude.{◌≡◌, ◌<◌, ◌≤◌, ◌^◌, Some, All, length, map, slice_get};
 ghost use Rattle.vid_geom.specs.Squares.{side_of, path_of, squares, squares_across, squares_up};
 ghost use Rattle.vid_geom.specs.CodedOrder.{ranges_from};
 ghost use Rattle.vid_geom.specs.Tables.{IsSmall};
+ghost use Rattle.vid_geom.specs.Views.{cell_of, grid_of, walk_of};
 
 /// A place in a grid.
 #[derive(Clone, Copy)]
@@ -30,7 +31,7 @@ pub struct Grid {
     pub height: u32,
 }
 
-const HILBERT: [Cell; 16] = [
+static HILBERT: [Cell; 16] = [
     Cell { col: 0, row: 0 },
     Cell { col: 1, row: 0 },
     Cell { col: 1, row: 1 },
@@ -49,7 +50,7 @@ const HILBERT: [Cell; 16] = [
     Cell { col: 3, row: 0 },
 ];
 
-const CLOCKWISE: [Cell; 4] = [
+static CLOCKWISE: [Cell; 4] = [
     Cell { col: 0, row: 0 },
     Cell { col: 0, row: 1 },
     Cell { col: 1, row: 1 },
@@ -59,7 +60,8 @@ const CLOCKWISE: [Cell; 4] = [
 impl Walk {
     /// How many cells the side of a square has.
     pub fn side(self) -> u32
-        ensures { result ≡ side_of self }
+        ensures value { result ≡ side_of (walk_of self) }
+        ensures small { result ≤ 4 }
     {
         match self {
             Walk::Hilbert => 4,
@@ -69,7 +71,8 @@ impl Walk {
 
     /// The cells of a whole square in order.
     pub fn path(self) -> &'static [Cell]
-        ensures { result.now ≡ path_of self }
+        ensures value { map cell_of result.now ≡ path_of (walk_of self) }
+        ensures small { All (λ step. (step.col < 4) × (step.row < 4)) result.now }
     {
         match self {
             Walk::Hilbert => &HILBERT,
@@ -81,22 +84,22 @@ impl Walk {
 impl Grid {
     /// How many squares a row of squares has.
     pub fn squares_across(self) -> u32
-        ensures { result ≡ squares_across self }
+        ensures { result ≡ squares_across (grid_of self) }
     {
         self.width.div_ceil(self.walk.side())
     }
 
     /// How many rows of squares there are.
     pub fn squares_up(self) -> u32
-        ensures { result ≡ squares_up self }
+        ensures { result ≡ squares_up (grid_of self) }
     {
         self.height.div_ceil(self.walk.side())
     }
 
     /// How many squares there are.
     pub fn squares(self) -> u32
-        requires { IsSmall self }
-        ensures value { result ≡ length (squares self) }
+        requires { IsSmall (grid_of self) }
+        ensures value { result ≡ length (squares (grid_of self)) }
         ensures small { result < 2 ^ 22 }
     {
         self.squares_across() * self.squares_up()
@@ -104,10 +107,10 @@ impl Grid {
 
     /// The first place of a square and the place past its last, where the cells' places begin at `from`.
     pub fn range(self, from: u32, square: u32) -> (u32, u32)
-        requires small { IsSmall self }
+        requires small { IsSmall (grid_of self) }
         requires from { from < 2 ^ 22 }
-        requires square { square < length (squares self) }
-        ensures value { slice_get (ranges_from from (squares self)) square ≡ Some result }
+        requires square { square < length (squares (grid_of self)) }
+        ensures value { slice_get (ranges_from from (squares (grid_of self))) square ≡ Some result }
         ensures some { result.0 < result.1 }
     {
         let side = self.walk.side();

@@ -2,6 +2,7 @@
 ghost use Rattle.std.specs.Prelude.{◌≡◌, ◌<◌};
 ghost use Rattle.vid_geom.specs.CodedOrder.{block_grid};
 ghost use Rattle.vid_geom.specs.MacroBlocks.{columns_in, rows_in, macro_grid};
+ghost use Rattle.vid_geom.specs.Views.{grid_of};
 
 use crate::grid::{Grid, Walk};
 use vid_base::Shape;
@@ -9,7 +10,7 @@ use vid_base::Shape;
 /// The blocks of a plane as a grid of superblocks.
 pub fn block_grid(shape: Shape, pli: u8) -> Grid
     requires { pli < 3 }
-    ensures { result ≡ block_grid shape pli }
+    ensures { grid_of result ≡ block_grid shape pli }
 {
     Grid {
         walk: Walk::Hilbert,
@@ -20,7 +21,7 @@ pub fn block_grid(shape: Shape, pli: u8) -> Grid
 
 /// The macro blocks of a frame as a grid of the luma superblocks.
 pub fn macro_grid(shape: Shape) -> Grid
-    ensures { result ≡ macro_grid shape }
+    ensures { grid_of result ≡ macro_grid shape }
 {
     Grid {
         walk: Walk::Clockwise,

@@ -2,6 +2,7 @@
 ghost use Rattle.std.specs.Prelude.{◌≡◌, ◌*◌, ◌<◌, ◌^◌, Some, IfOk, slice_get};
 ghost use Rattle.vid_geom.specs.Squares.{cells};
 ghost use Rattle.vid_geom.specs.Tables.{IsSmall};
+ghost use Rattle.vid_geom.specs.Views.{cell_of, grid_of};
 
 use crate::grid::{Cell, Grid};
 use crate::tables::{cells_of, places_of};
@@ -18,21 +19,23 @@ pub struct Plane {
 }
 
 impl Model for Plane {
-    ghost use Rattle.vid_geom.specs.declared.grid.Grid.{Grid};
+    ghost use Rattle.std.specs.Prelude.{map};
+    ghost use Rattle.vid_geom.specs.Squares.{Grid};
     ghost use Rattle.vid_geom.specs.Tables.{AreTables};
+    ghost use Rattle.vid_geom.specs.Views.{cell_of, grid_of};
 
     ghost Value = { Grid };
 
-    ghost view = { λ p. p.grid };
+    ghost view = { λ p. grid_of p.grid };
 
-    ghost invariant = { λ p. AreTables p.grid p.order.items p.places.items };
+    ghost invariant = { λ p. AreTables (grid_of p.grid) (map cell_of p.order.items) p.places.items };
 }
 
 impl Plane {
     /// Fills the tables.
     pub fn new(alloc: Global, grid: Grid) -> Result<Plane, NoMem>
-        requires { IsSmall grid }
-        ensures { IfOk result (λ p. p ≡ grid) }
+        requires { IsSmall (grid_of grid) }
+        ensures { IfOk result (λ p. p ≡ grid_of grid) }
     {
         let order = cells_of(alloc, grid)?;
         let places = places_of(alloc, grid, &order)?;
@@ -45,7 +48,7 @@ impl Plane {
 
     /// The grid of the blocks.
     pub fn grid(&self) -> Grid
-        ensures value { result ≡ self.now }
+        ensures value { grid_of result ≡ self.now }
         ensures small { IsSmall self.now }
     {
         self.grid
@@ -62,7 +65,7 @@ impl Plane {
     /// The cell at a place.
     pub fn cell(&self, place: u32) -> Cell
         requires { place < self.now.width * self.now.height }
-        ensures { slice_get (cells self.now) place ≡ Some result }
+        ensures { slice_get (cells self.now) place ≡ Some (cell_of result) }
     {
         self.order[place as usize]
     }
@@ -71,7 +74,7 @@ impl Plane {
     pub fn place(&self, cell: Cell) -> u32
         requires column { cell.col < self.now.width }
         requires row { cell.row < self.now.height }
-        ensures value { slice_get (cells self.now) result ≡ Some cell }
+        ensures value { slice_get (cells self.now) result ≡ Some (cell_of cell) }
         ensures small { result < 2 ^ 19 }
     {
         self.places[(cell.row * self.grid.width + cell.col) as usize]

@@ -1,7 +1,8 @@
 // The cells of a grid in the order in which they are walked through, and the place of each (Theora I, 2.3 and 2.4).
-ghost use Rattle.std.specs.Prelude.{◌≡◌, ◌*◌, ◌<◌, ◌^◌, ◌++◌, length, OnOk, IfOk};
+ghost use Rattle.std.specs.Prelude.{◌≡◌, ◌*◌, ◌<◌, ◌^◌, ◌++◌, length, map, OnOk, IfOk};
 ghost use Rattle.vid_geom.specs.Squares.{only_inside, square, square_row, joined, cells};
 ghost use Rattle.vid_geom.specs.Tables.{IsSmall, HasPlaces};
+ghost use Rattle.vid_geom.specs.Views.{cell_of, grid_of};
 
 use crate::grid::{Cell, Grid};
 use std::alloc::Global;
@@ -9,7 +10,7 @@ use vid_base::NoMem;
 
 // Adds the cell if the grid has it.
 fn push_inside(out: &mut Vec<Cell>, grid: Grid, cell: Cell) -> Result<(), NoMem>
-    ensures { OnOk result (out.new.items ≡ out.old.items ++ only_inside grid cell) }
+    ensures { OnOk result (map cell_of out.new.items ≡ map cell_of out.old.items ++ only_inside (grid_of grid) (cell_of cell)) }
 {
     if cell.col < grid.width && cell.row < grid.height {
         out.push(cell)?;
@@ -21,7 +22,7 @@ fn push_inside(out: &mut Vec<Cell>, grid: Grid, cell: Cell) -> Result<(), NoMem>
 fn push_square(out: &mut Vec<Cell>, grid: Grid, col: u32, row: u32) -> Result<(), NoMem>
     requires col { col < 2 ^ 20 }
     requires row { row < 2 ^ 20 }
-    ensures { OnOk result (out.new.items ≡ out.old.items ++ square grid col row) }
+    ensures { OnOk result (map cell_of out.new.items ≡ map cell_of out.old.items ++ square (grid_of grid) col row) }
 {
     let right = grid.walk.side() * col;
     let up = grid.walk.side() * row;
@@ -38,9 +39,9 @@ fn push_square(out: &mut Vec<Cell>, grid: Grid, col: u32, row: u32) -> Result<()
 
 // Adds the cells of a row of squares.
 fn push_row(out: &mut Vec<Cell>, grid: Grid, row: u32) -> Result<(), NoMem>
-    requires small { IsSmall grid }
+    requires small { IsSmall (grid_of grid) }
     requires row { row < 2 ^ 20 }
-    ensures { OnOk result (out.new.items ≡ out.old.items ++ joined (square_row grid row)) }
+    ensures { OnOk result (map cell_of out.new.items ≡ map cell_of out.old.items ++ joined (square_row (grid_of grid) row)) }
 {
     for col in 0..grid.squares_across() {
         push_square(out, grid, col, row)?;
@@ -50,8 +51,8 @@ fn push_row(out: &mut Vec<Cell>, grid: Grid, row: u32) -> Result<(), NoMem>
 
 /// All cells of a grid in order.
 pub fn cells_of(alloc: Global, grid: Grid) -> Result<Vec<Cell>, NoMem>
-    requires { IsSmall grid }
-    ensures { IfOk result (λ v. v.items ≡ cells grid) }
+    requires { IsSmall (grid_of grid) }
+    ensures { IfOk result (λ v. map cell_of v.items ≡ cells (grid_of grid)) }
 {
     let mut order = Vec::with_capacity(alloc, (grid.width * grid.height) as usize)?;
     for row in 0..grid.squares_up() {
@@ -62,10 +63,10 @@ pub fn cells_of(alloc: Global, grid: Grid) -> Result<Vec<Cell>, NoMem>
 
 /// The place of each cell in raster order.
 pub fn places_of(alloc: Global, grid: Grid, order: &[Cell]) -> Result<Vec<u32>, NoMem>
-    requires small { IsSmall grid }
-    requires order { order.now ≡ cells grid }
+    requires small { IsSmall (grid_of grid) }
+    requires order { map cell_of order.now ≡ cells (grid_of grid) }
     ensures whole { IfOk result (λ v. length v.items ≡ grid.width * grid.height) }
-    ensures placed { IfOk result (λ v. HasPlaces grid order.now v.items) }
+    ensures placed { IfOk result (λ v. HasPlaces (grid_of grid) (map cell_of order.now) v.items) }
 {
     let mut places = vec![in alloc; 0; (grid.width * grid.height) as usize]?;
     for (place, cell) in order.iter().enumerate() {

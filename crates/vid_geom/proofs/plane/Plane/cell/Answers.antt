@@ -1,15 +1,16 @@
-use Rattle.std.proofs.Common.{◌<◌, ◌*◌, length, ap, arith}
-use Rattle.std.proofs.lemmas.Option.{slice_get_read}
+use Rattle.std.proofs.Common.{arith}
+use Rattle.vid_geom.specs.Squares.{cells}
+use Rattle.vid_geom.specs.Views.{cell_of}
+use Rattle.vid_geom.proofs.ListLemmas.{length_as, read_as}
 use Rattle.vid_geom.proofs.OrderLemmas.{length-cells}
 use Rattle.vid_geom.proofs.plane.Plane.cell.Goals as goal
 
 pub index-requires : goal.index-requires
 index-requires c =
-    let within : c.args.place < c.self.inside.grid.width * c.self.inside.grid.height = rw c.self.view_is c.requires in
-    omega (arith, ap length c.self.invariant.ordered, length-cells c.self.inside.grid)
+    let all = rw c.self.view_is at c.self.invariant.ordered in
+    omega (arith, length_as cell_of c.self.inside.order.items (cells c.args.self.now) all, length-cells c.args.self.now)
 
 pub returns : goal.returns
 returns c =
-    let within : c.args.place < c.self.inside.grid.width * c.self.inside.grid.height = rw c.self.view_is c.requires in
-    rw (← c.self.view_is, ← c.self.invariant.ordered)
-    (slice_get_read c.self.inside.order.items (length c.self.inside.order.items) c.args.place _ (omega arith) (omega (arith, ap length c.self.invariant.ordered, length-cells c.self.inside.grid)) c.index.ensures)
+    let all = rw c.self.view_is at c.self.invariant.ordered in
+    read_as cell_of c.self.inside.order.items (cells c.args.self.now) c.args.place _ all (omega (arith, length-cells c.args.self.now)) c.index.ensures
