@@ -1,5 +1,5 @@
 -- The places of a superblock, plane by plane, and that superblocks follow one another. Geom and the layers above cite these.
-use Rattle.std.proofs.Common.{◌≡◌, ◌∙◌, ℕ, zero, suc, ◌+◌, ◌<◌, ◌≤◌, ◌*◌, ◌==◌, if◌then◌else◌, List, [], ◌∷◌, ◌++◌, length, get_or, take, drop, map, Some, slice_get, refl, sym, ap, arith, length-append}
+use Rattle.std.proofs.Common.{◌≡◌, ◌∙◌, ℕ, ◌+◌, ◌<◌, ◌≤◌, ◌*◌, List, [], ◌∷◌, ◌++◌, length, get_or, take, drop, map, Some, slice_get, refl, sym, ap, arith, length-append}
 use Rattle.std.specs.List.{All, range_with_len}
 use Rattle.std.proofs.lemmas.List.Elements.{All-append, All-map}
 use Rattle.std.proofs.lemmas.List.Sums.{count_by-le-length, length-filter}
@@ -8,17 +8,14 @@ use Rattle.std.proofs.lemmas.Option.{slice_get_within, same_Some}
 use Rattle.vid_base.specs.declared.shape.Shape.{Shape}
 use Rattle.vid_geom.specs.declared.block.Block.{Block}
 use Rattle.vid_geom.specs.Squares.{Grid, Hilbert, inside, joined, moved, path_of, side_of, square, square_row, squares, squares_across, squares_up}
-use Rattle.vid_geom.specs.CodedOrder.{block_grid, plane_blocks, blocks_before, block_of, superblocks_of, superblocks, order_of, ranges_from, superblock_ranges}
-use Rattle.vid_geom.proofs.ListLemmas.{All-flat_map, joined-append, slice_get-append_left, slice_get-append_right}
+use Rattle.vid_geom.specs.CodedOrder.{block_grid, plane_blocks, block_of, superblocks_of, superblocks, order_of, ranges_from, superblock_ranges}
+use Rattle.vid_geom.proofs.ListLemmas.{All-flat_map, joined-append}
 use Rattle.vid_geom.proofs.NumberLemmas.{slice_get-ranges_from, length-ranges_from, ranges_from-append, ranges_from-map}
 use Rattle.vid_geom.proofs.OrderLemmas.{order_in_is, length-order_in}
 
--- how many superblocks a plane has, and the planes before it
+-- how many superblocks a plane has
 abbrev pub plane_superblocks : Shape → ℕ → ℕ
 plane_superblocks s pli = length (squares (block_grid s pli))
-
-abbrev pub superblocks_before : Shape → ℕ → ℕ
-superblocks_before s pli = if pli == 0 then 0 else if pli == 1 then plane_superblocks s 0 else plane_superblocks s 0 + plane_superblocks s 1
 
 length-superblocks_of : (s : Shape) (pli : ℕ) → length (superblocks_of s pli) ≡ plane_superblocks s pli
 unfolding superblocks_of
@@ -75,22 +72,14 @@ ranges_is s =
     ranges_from-append 0 (superblocks_of s 0 ++ superblocks_of s 1) (superblocks_of s 2)
     ∙ rw (second, ranges_from-append 0 (superblocks_of s 0) (superblocks_of s 1), first, ranges_in s 0 0, ranges_in s 1 (plane_blocks s 0), ranges_in s 2 (plane_blocks s 0 + plane_blocks s 1)) refl
 
--- a superblock of a plane among those of the frame
-pub range_in_plane : (s : Shape) (pli k : ℕ) (r : ℕ × ℕ) → pli < 3 → slice_get (ranges_from (blocks_before s pli) (squares (block_grid s pli))) k ≡ Some r
-    → slice_get (superblock_ranges s) (superblocks_before s pli + k) ≡ Some r
-range_in_plane s zero k r p h =
-    let l : k < length (ranges_in_y s) = slice_get_within (ranges_in_y s) k r h in
-    let e : 0 + k ≡ k = omega arith in
-    rw (e, ranges_is s) (slice_get-append_left (ranges_in_y s ++ ranges_in_cb s) (ranges_in_cr s) k (omega (arith, length-append (ranges_in_y s) (ranges_in_cb s))) ∙ slice_get-append_left (ranges_in_y s) (ranges_in_cb s) k l ∙ h)
-range_in_plane s (suc zero) k r p h =
-    let l : k < length (ranges_in_cb s) = slice_get_within (ranges_in_cb s) k r h in
-    let y : length (ranges_in_y s) ≡ plane_superblocks s 0 = length-ranges_from 0 (squares (block_grid s 0)) in
-    rw (ranges_is s) (slice_get-append_left (ranges_in_y s ++ ranges_in_cb s) (ranges_in_cr s) (plane_superblocks s 0 + k) (omega (arith, length-append (ranges_in_y s) (ranges_in_cb s))) ∙ slice_get-append_right (ranges_in_y s) (ranges_in_cb s) (plane_superblocks s 0) k y ∙ h)
-range_in_plane s (suc (suc zero)) k r p h =
-    let y : length (ranges_in_y s) ≡ plane_superblocks s 0 = length-ranges_from 0 (squares (block_grid s 0)) in
-    let cb : length (ranges_in_cb s) ≡ plane_superblocks s 1 = length-ranges_from (plane_blocks s 0) (squares (block_grid s 1)) in
-    rw (ranges_is s) (slice_get-append_right (ranges_in_y s ++ ranges_in_cb s) (ranges_in_cr s) (plane_superblocks s 0 + plane_superblocks s 1) k (omega (arith, length-append (ranges_in_y s) (ranges_in_cb s))) ∙ h)
-range_in_plane s (suc (suc (suc n))) k r p h = absurd (omega arith)
+-- the same from the grids of the planes
+pub ranges_by_grids : (s : Shape) (luma chroma : Grid) → luma ≡ block_grid s 0 → chroma ≡ block_grid s 1
+    → ranges_from 0 (squares luma) ++ ranges_from (luma.width * luma.height) (squares chroma) ++ ranges_from (luma.width * luma.height + chroma.width * chroma.height) (squares chroma) ≡ superblock_ranges s
+ranges_by_grids s luma chroma y c = rw (y, c) (sym (ranges_is s))
+
+pub length-superblock_ranges : (s : Shape) → length (superblock_ranges s) ≡ length (superblocks s)
+unfolding superblock_ranges
+length-superblock_ranges s = length-ranges_from 0 (superblocks s)
 
 -- a superblock's places follow those of the superblocks before it
 pub record IsRange (s : Shape) (k : ℕ) (r : ℕ × ℕ) : Type 0 where
@@ -113,13 +102,6 @@ range_is s k r h =
     let e = same_Some r (0 + length (joined (take k lists)), 0 + length (joined (take k lists)) + length (get_or lists k [])) (sym h ∙ slice_get-ranges_from 0 lists k l) in
     let past : r.1 ≡ length (joined (take (k + 1) lists)) = omega (arith, ap (λ q. q.1) e, joined_one_more lists k l) in
     record { first = omega (arith, ap (λ q. q.0) e); past = past; within = omega (arith, joined_part lists (k + 1)) }
-
--- a superblock of a plane, where the place among the frame's is given
-pub range_at_place : (s : Shape) (pli k place from : ℕ) (g : Grid) (r : ℕ × ℕ) → pli < 3 → superblocks_before s pli + k ≡ place → from ≡ blocks_before s pli → g ≡ block_grid s pli
-    → slice_get (ranges_from from (squares g)) k ≡ Some r → slice_get (superblock_ranges s) place ≡ Some r
-range_at_place s pli k place from g r p e f b h =
-    let own : slice_get (ranges_from (blocks_before s pli) (squares (block_grid s pli))) k ≡ Some r = rw (f, b) at h in
-    rw e at (range_in_plane s pli k r p own)
 
 -- the last superblock's places end where the frame's do
 pub past_last : (s : Shape) → length (joined (take (length (superblocks s)) (superblocks s))) ≡ length (order_of s)

@@ -10,7 +10,7 @@ use crate::block::{Block, MacroBlock};
 use crate::grid::Cell;
 use crate::layout::{block_grid, columns_in, macro_grid, rows_in};
 use crate::plane::Plane;
-use crate::tables::cells_of;
+use crate::tables::{cells_of, ranges_of};
 use std::alloc::Global;
 use std::marker::Model;
 use vid_base::{NoMem, Shape};
@@ -22,6 +22,8 @@ pub struct Geom {
     luma: Plane,
     /// Cb, and Cr too: their blocks lie alike.
     chroma: Plane,
+    /// The first place of each superblock, and the place past its last.
+    superblocks: Vec<(u32, u32)>,
     macro_blocks: Vec<Cell>,
 }
 
@@ -35,7 +37,7 @@ impl Model for Geom {
 
     ghost view = { λ g. g.shape };
 
-    ghost invariant = { λ g. IsLayout g.shape g.luma g.chroma (map cell_of g.macro_blocks.items) };
+    ghost invariant = { λ g. IsLayout g.shape g.luma g.chroma g.superblocks.items (map cell_of g.macro_blocks.items) };
 }
 
 impl Geom {
@@ -45,11 +47,13 @@ impl Geom {
     {
         let luma = Plane::new(alloc, block_grid(shape, 0))?;
         let chroma = Plane::new(alloc, block_grid(shape, 1))?;
+        let superblocks = ranges_of(alloc, luma.grid(), chroma.grid())?;
         let macro_blocks = cells_of(alloc, macro_grid(shape))?;
         Ok(Geom {
             shape,
             luma,
             chroma,
+            superblocks,
             macro_blocks,
         })
     }
@@ -150,25 +154,6 @@ impl Geom {
         self.luma.grid().squares() + 2 * self.chroma.grid().squares()
     }
 
-    // The coded places of a superblock, by its plane: what follows of them is shown once, by `superblock`.
-    fn range(&self, s: u32) -> (u32, u32)
-        requires { s < length (superblocks self.now) }
-        ensures value { slice_get (superblock_ranges self.now) s ≡ Some result }
-        ensures some { result.0 < result.1 }
-    {
-        let luma = self.luma.grid();
-        let chroma = self.chroma.grid();
-        let cb = luma.squares();
-        let cr = cb + chroma.squares();
-        if s < cb {
-            luma.range(0, s)
-        } else if s < cr {
-            chroma.range(self.blocks_before(1), s - cb)
-        } else {
-            chroma.range(self.blocks_before(2), s - cr)
-        }
-    }
-
     /// The first coded place of a superblock's blocks, and the place past the last.
     pub fn superblock(&self, s: u32) -> (u32, u32)
         requires { s < length (superblocks self.now) }
@@ -177,7 +162,7 @@ impl Geom {
         ensures past { result.1 ≡ length (joined (take (s + 1) (superblocks self.now))) }
         ensures within { (result.0 < result.1) × (result.1 ≤ length (order_of self.now)) }
     {
-        self.range(s)
+        self.superblocks[s as usize]
     }
 
     /// How many macro blocks a frame has.

@@ -1,6 +1,8 @@
 // The cells of a grid in the order in which they are walked through, and the place of each (Theora I, 2.3 and 2.4).
-ghost use Rattle.std.specs.Prelude.{◌≡◌, ◌*◌, ◌<◌, ◌^◌, ◌++◌, length, map, OnOk, IfOk};
-ghost use Rattle.vid_geom.specs.Squares.{only_inside, square, square_row, joined, cells};
+ghost use Rattle.std.specs.Prelude.{◌≡◌, ◌+◌, ◌*◌, ◌<◌, ◌^◌, ◌++◌, length, map, OnOk, IfOk};
+ghost use Rattle.vid_geom.specs.Squares.{only_inside, square, squares, square_row, joined, cells};
+ghost use Rattle.vid_geom.specs.CodedOrder.{ranges_from};
+ghost use Rattle.vid_geom.specs.Layout.{AreSome};
 ghost use Rattle.vid_geom.specs.Tables.{IsSmall, HasPlaces};
 ghost use Rattle.vid_geom.specs.Views.{cell_of, grid_of};
 
@@ -73,4 +75,35 @@ pub fn places_of(alloc: Global, grid: Grid, order: &[Cell]) -> Result<Vec<u32>, 
         places[(cell.row * grid.width + cell.col) as usize] = place as u32;
     }
     Ok(places)
+}
+
+// Adds the first place of each square of a grid and the place past its last, where the cells' places begin at `from`.
+fn push_ranges(out: &mut Vec<(u32, u32)>, grid: Grid, from: u32) -> Result<(), NoMem>
+    requires small { IsSmall (grid_of grid) }
+    requires from { from < 2 ^ 22 }
+    ensures value { OnOk result (out.new.items ≡ out.old.items ++ ranges_from from (squares (grid_of grid))) }
+    ensures some { AreSome out.old.items → OnOk result (AreSome out.new.items) }
+{
+    for square in 0..grid.squares() {
+        out.push(grid.range(from, square))?;
+    }
+    Ok(())
+}
+
+/// The places of the superblocks of a frame, from the grids of its planes.
+pub fn ranges_of(alloc: Global, luma: Grid, chroma: Grid) -> Result<Vec<(u32, u32)>, NoMem>
+    requires luma { IsSmall (grid_of luma) }
+    requires chroma { IsSmall (grid_of chroma) }
+    ensures value { IfOk result (λ v. v.items ≡ ranges_from 0 (squares (grid_of luma))
+        ++ ranges_from (luma.width * luma.height) (squares (grid_of chroma))
+        ++ ranges_from (luma.width * luma.height + chroma.width * chroma.height) (squares (grid_of chroma))) }
+    ensures some { IfOk result (λ v. AreSome v.items) }
+{
+    let cb = luma.width * luma.height;
+    let cr = cb + chroma.width * chroma.height;
+    let mut ranges = Vec::new(alloc);
+    push_ranges(&mut ranges, luma, 0)?;
+    push_ranges(&mut ranges, chroma, cb)?;
+    push_ranges(&mut ranges, chroma, cr)?;
+    Ok(ranges)
 }
