@@ -1,0 +1,3 @@
+pub mod ResponseLemmas
+pub mod EdgeLemmas
+pub mod OrderLemmas

@@ -1,0 +1,5 @@
+pub mod EdgeRule
+pub mod Edges
+pub mod Filtered
+pub mod Lanes
+pub mod Rows
