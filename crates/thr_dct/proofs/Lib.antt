@@ -1,6 +1,6 @@
-pub mod Casts
+pub mod Cuts
 mod ProductLemmas
-mod SumLemmas
+mod BlockLemmas
 mod PassLemmas
 mod SpreadLemmas
 mod EndsLemmas
