@@ -1,5 +1,5 @@
 -- A cut of a sum does not depend on what was cut of its parts, and a signed number that was passed or stored is what it
--- was. The functions of `line` have these by `using`.
+-- was. Functions have these by `using`.
 use Rattle.std.proofs.Common.{◌≡◌, ◌+ℤ◌, ◌-ℤ◌, ℤ, neg_ℤ}
 use Rattle.std.specs.Int.{w16}
 use Rattle.std.proofs.lemmas.Int.{to_z-of_z, int_wrap-add_left, int_wrap-add_right, int_wrap-sub_right}

@@ -1,7 +1,7 @@
 pub mod Cuts
 mod ProductLemmas
 mod BlockLemmas
-mod PassLemmas
+pub mod PassLemmas
 mod SpreadLemmas
 mod EndsLemmas
 mod ForwardLemmas

@@ -1,7 +1,7 @@
 -- The high half of a product by a constant that is less by one as a signed number. `scaled` cites these.
-use Rattle.std.proofs.Common.{arith, ◌≡◌, ◌+◌, ◌*◌, ◌/◌, ◌<◌, ◌≤◌, ◌^◌, sym, ap, ◌∙◌, ℕ, ◌+ℤ◌, ◌-ℤ◌, ◌*ℤ◌, ℤ, pos, negsuc, ◌≤ℤ◌}
+use Rattle.std.proofs.Common.{arith, ◌≡◌, ◌<◌, ◌≤◌, ◌^◌, sym, ap, ◌∙◌, ℕ, ◌+ℤ◌, ◌*ℤ◌, ℤ, pos, negsuc, ◌≤ℤ◌}
 use Rattle.std.specs.Int.{w16, w32}
-use Rattle.std.specs.Int.Signed.{nat_abs-le, shr_z, ◌<ℤ◌}
+use Rattle.std.specs.Int.Signed.{nat_abs-le, shr_z}
 use Rattle.std.proofs.lemmas.Int.{ints, fits_signed_mul, of_z-to_z}
 use Rattle.std.proofs.Math.IntN.{*ℤ_comm}
 use Rattle.thr_dct.proofs.SpreadLemmas.{mul_add}

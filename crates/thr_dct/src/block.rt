@@ -107,11 +107,12 @@ fn settled_columns(block: &[i16; 64]) -> [i16; 64]
 }
 
 /// The residuals of a block whose coefficients are given, both in natural order (Theora I, 7.9.3.2).
+#[tactic(auto, using(crate::proofs::PassLemmas::rows_by_columns), unfolding(crate::specs::Inverse::inverse_of))]
 pub fn inverse(c: &[i16; 64]) -> [i16; 64]
     ensures value { result ≡ inverse_of c.now }
 {
     let across = turn(c);
-    let done = columns(&across);
-    let by_rows = turn(&done);
+    let passed = columns(&across);
+    let by_rows = turn(&passed);
     settled_columns(&by_rows)
 }

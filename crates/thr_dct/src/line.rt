@@ -22,7 +22,7 @@ fn difference(u: i16, v: i16) -> i16
     u.wrapping_sub(v)
 }
 
-// A bound that a cast to 16 bits can use stands in two clauses.
+// The high half of a product, with bounds that let it be cast to 16 bits.
 fn wide_high(c: i16, v: i16) -> i32
     ensures value { result ≡ int_shr (c *ℤ v) 16 }
     ensures low { negsuc 32767 ≤ℤ result }
@@ -31,7 +31,7 @@ fn wide_high(c: i16, v: i16) -> i32
     (i32::from(c) * i32::from(v)) >> 16
 }
 
-// The high half of a product.
+// The same in 16 bits.
 fn high(c: i16, v: i16) -> i16
     ensures { result ≡ int_shr (c *ℤ v) 16 }
 {
