@@ -11,7 +11,7 @@ pub record HasEnds (f : ℕ → ℤ) (k : ℕ) (s d : ℤ) : Type 0 where
   pub sum : s ≡ f k +ℤ f (7 - k)
   pub difference : d ≡ f k -ℤ f (7 - k)
 
-cons : {x y : ℤ} {xs ys : List ℤ} → x ≡ y → xs ≡ ys → x ∷ xs ≡ y ∷ ys
+pub cons : {x y : ℤ} {xs ys : List ℤ} → x ≡ y → xs ≡ ys → x ∷ xs ≡ y ∷ ys
 cons e h = cc
 
 pub sums_by_ends : (f : ℕ → ℤ) (s0 s1 s2 s3 d0 d1 d2 d3 : ℤ) → HasEnds f 0 s0 d0 → HasEnds f 1 s1 d1 → HasEnds f 2 s2 d2 → HasEnds f 3 s3 d3

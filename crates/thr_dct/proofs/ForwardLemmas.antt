@@ -11,15 +11,6 @@ use Rattle.thr_dct.specs.Passes.{sum_by_row, sums, summed_rows}
 use Rattle.thr_dct.proofs.SpreadLemmas.{mul_add}
 use Rattle.thr_dct.proofs.EndsLemmas.{sum_within}
 
-pub same_numbers : (xs ys : List ℤ) → length xs ≡ 64 → length ys ≡ 64 → ((k : ℕ) → k < 64 → entry xs k ≡ entry ys k) → xs ≡ ys
-same_numbers xs ys long also_long same =
-    fill_by_all (entry ys) xs 64 (pos 0) long same ∙ sym (fill_by_all (entry ys) ys 64 (pos 0) also_long (λ k below. refl))
-
-pub mapped : (f : ℤ → ℤ) (xs ys : List ℤ) → length xs ≡ 64 → length ys ≡ 64 → ((k : ℕ) → k < 64 → entry xs k ≡ f (entry ys k)) → xs ≡ map f ys
-mapped f xs ys long also_long same =
-    fill_by_all (λ k. f (entry ys k)) xs 64 (pos 0) long same
-    ∙ sym (fill_by_all (λ k. f (entry ys k)) (map f ys) 64 (pos 0) (length-map ys f ∙ also_long) (λ k below. get_or-map f ys k (pos 0) (pos 0) (omega arith)))
-
 -- a number of the block after a pass
 summed_at : (block : List ℤ) (p : ℕ) → p < 64 → entry (summed_rows block) p ≡ sum_by_row (λ x. entry block (8 * (p % 8) + x)) (p / 8)
 unfolding summed_rows

@@ -1,7 +1,7 @@
-pub mod Casts
+pub mod Cuts
 mod ProductLemmas
-mod SumLemmas
-mod PassLemmas
+mod BlockLemmas
+pub mod PassLemmas
 mod SpreadLemmas
 mod EndsLemmas
 mod ForwardLemmas

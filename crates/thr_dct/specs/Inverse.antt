@@ -9,6 +9,10 @@ use Rattle.thr_dct.specs.Line.{entry, line}
 unfoldable pub row : List ℤ → ℕ → List ℤ
 row block r = map (λ j. entry block (8 * r + j)) (range_with_len 0 8)
 
+-- that column of a block
+unfoldable pub column : List ℤ → ℕ → List ℤ
+column block j = map (λ r. entry block (8 * r + j)) (range_with_len 0 8)
+
 -- each row goes through the transform of one line
 unfoldable pub rows : List ℤ → List ℤ
 rows block = map (λ p. entry (line (row block (p / 8))) (p % 8)) (range_with_len 0 64)

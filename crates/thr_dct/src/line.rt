@@ -1,101 +1,120 @@
-// The inverse transform of one line of eight numbers (Theora I, 7.9.3.1).
-#![tactic(auto, using(crate::proofs::Casts::casts))]
+// The inverse transform of one line of eight numbers (Theora I, 7.9.3.1). All of it keeps 16 bits: the standard cuts each
+// sum that goes on, and a cut of a sum does not depend on what was cut of its parts.
+#![tactic(auto, using(crate::proofs::Cuts::cuts))]
 
-ghost use Rattle.std.specs.Prelude.{◌≡◌, ℤ, pos, ◌+ℤ◌, ◌-ℤ◌, ◌<◌, ◌^◌};
-ghost use Rattle.thr_dct.specs.Line.{m, cut, c1, c2, c3, c4, c5, c6, c7, line, Within};
+ghost use Rattle.std.specs.Prelude.{◌≡◌, pos, negsuc, ◌+ℤ◌, ◌-ℤ◌, ◌*ℤ◌, ◌≤ℤ◌};
+ghost use Rattle.std.specs.Int.{int_shr};
+ghost use Rattle.thr_dct.specs.Line.{m, cut, c1, c2, c3, c4, c5, c6, c7, line};
 
 use crate::tables::{C1, C2, C3, C4, C5, C6, C7};
 
-// The product by a constant, 65536 of which are one.
-fn scaled(c: u16, v: i16) -> i32
-    ensures value { result ≡ m (pos c) v }
-    ensures bound { Within 32768 result }
+#[tactic(auto, using(std::proofs::lemmas::Int::wraps), unfolding(crate::specs::Line::cut))]
+fn sum(u: i16, v: i16) -> i16
+    ensures { result ≡ cut (u +ℤ v) }
+{
+    u.wrapping_add(v)
+}
+
+#[tactic(auto, using(std::proofs::lemmas::Int::wraps), unfolding(crate::specs::Line::cut))]
+fn difference(u: i16, v: i16) -> i16
+    ensures { result ≡ cut (u -ℤ v) }
+{
+    u.wrapping_sub(v)
+}
+
+// The high half of a product, with bounds that let it be cast to 16 bits.
+fn wide_high(c: i16, v: i16) -> i32
+    ensures value { result ≡ int_shr (c *ℤ v) 16 }
+    ensures low { negsuc 32767 ≤ℤ result }
+    ensures high { result ≤ℤ pos 32767 }
 {
     (i32::from(c) * i32::from(v)) >> 16
 }
 
-// The low 16 bits, as a signed number.
-fn low_half(v: i32) -> i16
-    ensures { result ≡ cut v }
+// The same in 16 bits.
+fn high(c: i16, v: i16) -> i16
+    ensures { result ≡ int_shr (c *ℤ v) 16 }
 {
-    (v.rem_euclid(65_536) as u16).cast_signed()
+    wide_high(c, v) as i16
 }
 
-fn scaled_sum(u: i32, v: i32) -> i32
-    requires u { Within 65536 u }
-    requires v { Within 65536 v }
-    ensures value { result ≡ m c4 (cut (u +ℤ v)) }
-    ensures bound { Within 32768 result }
+// The product by a constant, 65536 of which are one. As a signed number a constant from a half on is less by one.
+fn scaled(c: u16, v: i16) -> i16
+    ensures { result ≡ m (pos c) v }
 {
-    scaled(C4, low_half(u + v))
+    let part = high(c.cast_signed(), v);
+    if c < 32_768 {
+        part
+    } else {
+        part.wrapping_add(v)
+    }
 }
 
-fn scaled_difference(u: i32, v: i32) -> i32
-    requires u { Within 65536 u }
-    requires v { Within 65536 v }
-    ensures value { result ≡ m c4 (cut (u -ℤ v)) }
-    ensures bound { Within 32768 result }
+fn scaled_sum(u: i16, v: i16) -> i16
+    ensures { result ≡ m c4 (cut (u +ℤ v)) }
 {
-    scaled(C4, low_half(u - v))
+    scaled(C4, sum(u, v))
 }
 
-fn sum_of_scaled(c: u16, u: i16, d: u16, v: i16) -> i32
-    ensures value { result ≡ m (pos c) u +ℤ m (pos d) v }
-    ensures bound { Within 65536 result }
+fn scaled_difference(u: i16, v: i16) -> i16
+    ensures { result ≡ m c4 (cut (u -ℤ v)) }
 {
-    scaled(c, u) + scaled(d, v)
+    scaled(C4, difference(u, v))
 }
 
-fn difference_of_scaled(c: u16, u: i16, d: u16, v: i16) -> i32
-    ensures value { result ≡ m (pos c) u -ℤ m (pos d) v }
-    ensures bound { Within 65536 result }
+fn sum_of_scaled(c: u16, u: i16, d: u16, v: i16) -> i16
+    ensures { result ≡ cut (m (pos c) u +ℤ m (pos d) v) }
 {
-    scaled(c, u) - scaled(d, v)
+    sum(scaled(c, u), scaled(d, v))
+}
+
+fn difference_of_scaled(c: u16, u: i16, d: u16, v: i16) -> i16
+    ensures { result ≡ cut (m (pos c) u -ℤ m (pos d) v) }
+{
+    difference(scaled(c, u), scaled(d, v))
 }
 
 // What the even entries of a line give.
 #[derive(Clone, Copy)]
 struct Even {
-    e0: i32,
-    e1: i32,
-    e2: i32,
-    e3: i32,
+    e0: i16,
+    e1: i16,
+    e2: i16,
+    e3: i16,
 }
 
 // What its odd entries give.
 #[derive(Clone, Copy)]
 struct Odd {
-    o0: i32,
-    o1: i32,
-    o2: i32,
-    o3: i32,
+    o0: i16,
+    o1: i16,
+    o2: i16,
+    o3: i16,
 }
 
 fn even_part(y0: i16, y2: i16, y4: i16, y6: i16) -> Even
-    ensures e0 { result.e0 ≡ m c4 (cut (y0 +ℤ y4)) +ℤ (m c2 y2 +ℤ m c6 y6) }
-    ensures e1 { result.e1 ≡ m c4 (cut (y0 -ℤ y4)) +ℤ (m c6 y2 -ℤ m c2 y6) }
-    ensures e2 { result.e2 ≡ m c4 (cut (y0 -ℤ y4)) -ℤ (m c6 y2 -ℤ m c2 y6) }
-    ensures e3 { result.e3 ≡ m c4 (cut (y0 +ℤ y4)) -ℤ (m c2 y2 +ℤ m c6 y6) }
-    ensures bounds { Within 98304 result.e0 × Within 98304 result.e1 × Within 98304 result.e2 × Within 98304 result.e3 }
+    ensures e0 { result.e0 ≡ cut (m c4 (cut (y0 +ℤ y4)) +ℤ (m c2 y2 +ℤ m c6 y6)) }
+    ensures e1 { result.e1 ≡ cut (m c4 (cut (y0 -ℤ y4)) +ℤ (m c6 y2 -ℤ m c2 y6)) }
+    ensures e2 { result.e2 ≡ cut (m c4 (cut (y0 -ℤ y4)) -ℤ (m c6 y2 -ℤ m c2 y6)) }
+    ensures e3 { result.e3 ≡ cut (m c4 (cut (y0 +ℤ y4)) -ℤ (m c2 y2 +ℤ m c6 y6)) }
 {
-    let t0 = scaled_sum(i32::from(y0), i32::from(y4));
-    let t1 = scaled_difference(i32::from(y0), i32::from(y4));
+    let t0 = scaled_sum(y0, y4);
+    let t1 = scaled_difference(y0, y4);
     let t2 = difference_of_scaled(C6, y2, C2, y6);
     let t3 = sum_of_scaled(C2, y2, C6, y6);
     Even {
-        e0: t0 + t3,
-        e1: t1 + t2,
-        e2: t1 - t2,
-        e3: t0 - t3,
+        e0: sum(t0, t3),
+        e1: sum(t1, t2),
+        e2: difference(t1, t2),
+        e3: difference(t0, t3),
     }
 }
 
 fn odd_part(y1: i16, y3: i16, y5: i16, y7: i16) -> Odd
-    ensures o0 { result.o0 ≡ (m c1 y1 +ℤ m c7 y7) +ℤ (m c5 y5 +ℤ m c3 y3) }
-    ensures o1 { result.o1 ≡ m c4 (cut ((m c1 y1 +ℤ m c7 y7) -ℤ (m c5 y5 +ℤ m c3 y3))) +ℤ m c4 (cut ((m c7 y1 -ℤ m c1 y7) -ℤ (m c3 y5 -ℤ m c5 y3))) }
-    ensures o2 { result.o2 ≡ m c4 (cut ((m c1 y1 +ℤ m c7 y7) -ℤ (m c5 y5 +ℤ m c3 y3))) -ℤ m c4 (cut ((m c7 y1 -ℤ m c1 y7) -ℤ (m c3 y5 -ℤ m c5 y3))) }
-    ensures o3 { result.o3 ≡ (m c7 y1 -ℤ m c1 y7) +ℤ (m c3 y5 -ℤ m c5 y3) }
-    ensures bounds { Within 131072 result.o0 × Within 131072 result.o1 × Within 131072 result.o2 × Within 131072 result.o3 }
+    ensures o0 { result.o0 ≡ cut ((m c1 y1 +ℤ m c7 y7) +ℤ (m c5 y5 +ℤ m c3 y3)) }
+    ensures o1 { result.o1 ≡ cut (m c4 (cut ((m c1 y1 +ℤ m c7 y7) -ℤ (m c5 y5 +ℤ m c3 y3))) +ℤ m c4 (cut ((m c7 y1 -ℤ m c1 y7) -ℤ (m c3 y5 -ℤ m c5 y3)))) }
+    ensures o2 { result.o2 ≡ cut (m c4 (cut ((m c1 y1 +ℤ m c7 y7) -ℤ (m c5 y5 +ℤ m c3 y3))) -ℤ m c4 (cut ((m c7 y1 -ℤ m c1 y7) -ℤ (m c3 y5 -ℤ m c5 y3)))) }
+    ensures o3 { result.o3 ≡ cut ((m c7 y1 -ℤ m c1 y7) +ℤ (m c3 y5 -ℤ m c5 y3)) }
 {
     let t4 = difference_of_scaled(C7, y1, C1, y7);
     let t5 = difference_of_scaled(C3, y5, C5, y3);
@@ -104,29 +123,11 @@ fn odd_part(y1: i16, y3: i16, y5: i16, y7: i16) -> Odd
     let a5 = scaled_difference(t4, t5);
     let a6 = scaled_difference(t7, t6);
     Odd {
-        o0: t7 + t6,
-        o1: a6 + a5,
-        o2: a6 - a5,
-        o3: t4 + t5,
+        o0: sum(t7, t6),
+        o1: sum(a6, a5),
+        o2: difference(a6, a5),
+        o3: sum(t4, t5),
     }
-}
-
-// Keeps 16 bits of a sum of an even and an odd part.
-fn low_sum(e: i32, o: i32) -> i16
-    requires e { Within 98304 e }
-    requires o { Within 131072 o }
-    ensures { result ≡ cut (e +ℤ o) }
-{
-    low_half(e + o)
-}
-
-// Keeps 16 bits of their difference.
-fn low_difference(e: i32, o: i32) -> i16
-    requires e { Within 98304 e }
-    requires o { Within 131072 o }
-    ensures { result ≡ cut (e -ℤ o) }
-{
-    low_half(e - o)
 }
 
 // Eight numbers of a line after the transform.
@@ -137,13 +138,13 @@ pub fn line(y: [i16; 8]) -> [i16; 8]
     let e = even_part(y0, y2, y4, y6);
     let o = odd_part(y1, y3, y5, y7);
     [
-        low_sum(e.e0, o.o0),
-        low_sum(e.e1, o.o1),
-        low_sum(e.e2, o.o2),
-        low_sum(e.e3, o.o3),
-        low_difference(e.e3, o.o3),
-        low_difference(e.e2, o.o2),
-        low_difference(e.e1, o.o1),
-        low_difference(e.e0, o.o0),
+        sum(e.e0, o.o0),
+        sum(e.e1, o.o1),
+        sum(e.e2, o.o2),
+        sum(e.e3, o.o3),
+        difference(e.e3, o.o3),
+        difference(e.e2, o.o2),
+        difference(e.e1, o.o1),
+        difference(e.e0, o.o0),
     ]
 }

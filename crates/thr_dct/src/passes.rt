@@ -56,6 +56,7 @@ fn narrowed(block: &[i64; 64]) -> [i32; 64]
 }
 
 // To the nearest number and halves upwards.
+#[tactic(auto, using(crate::proofs::Cuts::casts), unfolding(crate::specs::Forward::scaled_down))]
 fn scaled_down(s: i64) -> i32
     requires { Within (2 ^ 46) s }
     ensures { result ≡ scaled_down s }

@@ -1,6 +1,6 @@
 use Rattle.std.proofs.Common.{arith}
 use Rattle.thr_dct.specs.Forward.{scaled_down}
-use Rattle.thr_dct.proofs.ForwardLemmas.{mapped}
+use Rattle.thr_dct.proofs.BlockLemmas.{mapped}
 use Rattle.thr_dct.proofs.passes.coefficients.Goals as goal
 
 pub returns : goal.returns

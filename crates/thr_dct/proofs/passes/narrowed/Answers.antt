@@ -1,5 +1,5 @@
 use Rattle.std.proofs.Common.{arith}
-use Rattle.thr_dct.proofs.ForwardLemmas.{same_numbers}
+use Rattle.thr_dct.proofs.BlockLemmas.{same_numbers}
 use Rattle.thr_dct.proofs.passes.narrowed.Goals as goal
 
 pub returns : goal.returns

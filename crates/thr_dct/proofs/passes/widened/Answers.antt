@@ -1,5 +1,5 @@
 use Rattle.std.proofs.Common.{arith}
-use Rattle.thr_dct.proofs.ForwardLemmas.{same_numbers}
+use Rattle.thr_dct.proofs.BlockLemmas.{same_numbers}
 use Rattle.thr_dct.proofs.passes.widened.Goals as goal
 
 pub returns : goal.returns
