@@ -1,3 +1,6 @@
 mod ProductLemmas
 mod SumLemmas
 mod PassLemmas
+mod BasisLemmas
+mod SumsLemmas
+mod ForwardLemmas

@@ -1,2 +1,4 @@
 pub mod Line
 pub mod Inverse
+pub mod Forward
+pub mod Passes

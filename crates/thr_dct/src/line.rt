@@ -2,19 +2,7 @@
 ghost use Rattle.std.specs.Prelude.{◌≡◌, ℤ, pos, ◌+ℤ◌, ◌-ℤ◌, ◌<◌, ◌^◌};
 ghost use Rattle.thr_dct.specs.Line.{m, cut, c1, c2, c3, c4, c5, c6, c7, line, Within};
 
-const C1: u16 = 64_277;
-
-const C2: u16 = 60_547;
-
-const C3: u16 = 54_491;
-
-const C4: u16 = 46_341;
-
-const C5: u16 = 36_410;
-
-const C6: u16 = 25_080;
-
-const C7: u16 = 12_785;
+use crate::tables::{C1, C2, C3, C4, C5, C6, C7};
 
 // The product by a constant, 65536 of which are one.
 fn scaled(c: u16, v: i16) -> i32
