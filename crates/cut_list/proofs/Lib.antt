@@ -1,0 +1,4 @@
+mod LineLemmas
+mod ItemLemmas
+mod NumberLemmas
+mod ReadLemmas
