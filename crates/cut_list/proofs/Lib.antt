@@ -2,3 +2,4 @@ mod LineLemmas
 mod ItemLemmas
 mod NumberLemmas
 mod ReadLemmas
+pub mod ListedLemmas

@@ -4,3 +4,4 @@ pub mod Numbers
 pub mod Items
 pub mod EditList
 pub mod Answers
+pub mod Listed

@@ -12,6 +12,9 @@ pub record Slice : Type 0 where
 abbrev pub Slices : Type 0
 Slices = List Slice
 
+abbrev pub Bytes : Type 0
+Bytes = List ℕ
+
 -- what a clause sees of a slice
 abbrev pub slice_view : SliceStruct → Slice
 slice_view s = record { line = s.line; src = s.src; first = s.first; past = s.past }
