@@ -68,14 +68,17 @@ slices_from-listed n (line ∷ lines) = listed (slices_from (n + 1) lines) (slic
     before later all few (Err why) right = tt
     before later all few (Ok slice) right =
         (omega (arith, right.0), record { line = omega (arith, right.0, few); src = right.1; past = right.2; ordered = right.3 }, rw right.0 all)
+
     some : (later : Slices) → AreSlices (n + 1) later → n ≤ 10000 → (nothing : Bool)
         → AreSlices n (slice_before (if nothing then Ok None else (item_of n (fields_of line) >>= λ slice. Ok (Some slice))) later)
     some later all few true = AreSlices-from n (n + 1) later (omega arith) all
     some later all few false = before later all few (item_of n (fields_of line)) (item_of-right n (fields_of line))
+
     within : (later : Slices) → AreSlices (n + 1) later → (many : Bool) → nat_lt 10000 n ≡ many
         → AreSlices n (slice_before (if many then Err TooMany else if says_nothing line then Ok None else (item_of n (fields_of line) >>= λ slice. Ok (Some slice))) later)
     within later all true e = tt
     within later all false e = some later all (grind arith) (says_nothing line)
+
     listed : (later : Slices) → AreSlices (n + 1) later → AreSlices n (slice_before (line_of n line) later)
     listed later all = within later all (nat_lt 10000 n) refl
 

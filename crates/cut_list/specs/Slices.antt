@@ -15,6 +15,9 @@ Slices = List Slice
 abbrev pub Bytes : Type 0
 Bytes = List ℕ
 
+abbrev pub ProgramSlices : Type 0
+ProgramSlices = List SliceStruct
+
 -- what a clause sees of a slice
 abbrev pub slice_view : SliceStruct → Slice
 slice_view s = record { line = s.line; src = s.src; first = s.first; past = s.past }

@@ -18,3 +18,5 @@ pub use laws::lists_of_a_text;
 pub use list::{List, Slice};
 pub use read::read_list;
 
+#[cfg(test)]
+mod tests;

@@ -45,5 +45,9 @@ fn decimal(digits: &[u8]) -> Option<u32>
 pub(crate) fn read_number(field: &[u8]) -> Option<u32>
     ensures value { result ≡ number_of field.now }
 {
-    if is_numeral(field) { decimal(field) } else { None }
+    if is_numeral(field) {
+        decimal(field)
+    } else {
+        None
+    }
 }

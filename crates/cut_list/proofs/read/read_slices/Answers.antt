@@ -12,7 +12,7 @@ returns-then-is_empty-clause-first_bad c =
     let none : lines_of c.lines.rest.now ≡ [] = lines_of-none c.lines.rest.now (grind (arith, common_steps)) in
     let empty : length c.lines.slices.items ≡ 0 = grind (arith, common_steps) in
     all_read c.lines.line (lines_of c.args.text.now) (lines_of c.lines.rest.now) (slices_view c.lines.slices.items) none i.counted i.bad i.slices
-      ∙ ap (λ slices. list_or_bad (c.lines.line + 1) None (slices_view slices)) (no_slice c.lines.slices.items empty)
+    ∙ ap (λ slices. list_or_bad (c.lines.line + 1) None (slices_view slices)) (no_slice c.lines.slices.items empty)
 
 pub returns-clause-value : goal.returns-clause-value
 returns-clause-value c =
@@ -20,4 +20,4 @@ returns-clause-value c =
     let none : lines_of c.lines.rest.now ≡ [] = lines_of-none c.lines.rest.now (grind (arith, common_steps)) in
     let some : 0 < length (slices_view c.lines.slices.items) = grind (arith, common_steps, length-map) in
     all_read c.lines.line (lines_of c.args.text.now) (lines_of c.lines.rest.now) (slices_view c.lines.slices.items) none i.counted i.bad i.slices
-      ∙ list_or_bad-some (c.lines.line + 1) (slices_view c.lines.slices.items) some
+    ∙ list_or_bad-some (c.lines.line + 1) (slices_view c.lines.slices.items) some
