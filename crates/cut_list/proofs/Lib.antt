@@ -1,0 +1,5 @@
+mod LineLemmas
+mod ItemLemmas
+mod NumberLemmas
+mod ReadLemmas
+pub mod ListedLemmas

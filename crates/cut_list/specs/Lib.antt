@@ -1,0 +1,7 @@
+pub mod Places
+pub mod Slices
+pub mod Numbers
+pub mod Items
+pub mod EditList
+pub mod Answers
+pub mod Listed

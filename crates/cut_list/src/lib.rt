@@ -1,0 +1,22 @@
+//! Edit lists, version 1 (own): which frames of which sources a cut is made of, as text.
+//!
+//! Above this crate only this is used: `read_list` gives the slices that a text says, or its first bad line with the first
+//! why.
+#![tactic(auto)]
+
+mod fault;
+mod item;
+mod laws;
+mod line;
+mod list;
+mod number;
+mod place;
+mod read;
+
+pub use fault::{ListFault, Why};
+pub use laws::lists_of_a_text;
+pub use list::{List, Slice};
+pub use read::read_list;
+
+#[cfg(test)]
+mod tests;

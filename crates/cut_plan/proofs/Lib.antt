@@ -1,0 +1,4 @@
+mod RangeLemmas
+mod JoinLemmas
+pub mod LawLemmas
+pub mod FrameLemmas

@@ -1,0 +1,6 @@
+pub mod Spans
+pub mod Range
+pub mod Forced
+pub mod Runs
+pub mod Views
+pub mod Sound
