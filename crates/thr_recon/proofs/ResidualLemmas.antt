@@ -1,9 +1,8 @@
 -- Products that are cut to 16 bits, and a block that is filled with them. `product`, `dequantise` and `short_residual` cite these.
-use Rattle.std.proofs.Common.{◌≡◌, ◌≢◌, ◌∙◌, ℕ, zero, suc, ℤ, pos, negsuc, ◌+ℤ◌, ◌*ℤ◌, ◌≤ℤ◌, ◌*◌, ◌+◌, ◌%◌, ◌/◌, ◌^◌, ◌<◌, ◌==◌, true, nat_lt, if◌then◌else◌, List, length, get_or, set, refl, sym, ap, arith}
-use Rattle.std.specs.Int.{int_wrap, int_shr, w16, w64}
+use Rattle.std.proofs.Common.{◌≡◌, ◌∙◌, ℕ, zero, suc, ℤ, pos, negsuc, ◌*ℤ◌, ◌≤ℤ◌, ◌*◌, ◌%◌, ◌<◌, nat_lt, List, length, get_or, set, refl, ap, arith}
+use Rattle.std.specs.Int.{int_wrap, w16, w64}
 use Rattle.std.specs.Int.Signed.{shr_z}
-use Rattle.std.specs.List.{range_with_len}
-use Rattle.std.proofs.lemmas.Int.{ints, to_z-of_z, wrapping_mul_is, int_wrap-mul_right}
+use Rattle.std.proofs.lemmas.Int.{ints, wrapping_mul_is, int_wrap-mul_right}
 use Rattle.std.proofs.lemmas.List.{get_or-set_same, get_or-set_other, length-set}
 use Rattle.std.proofs.lemmas.List.FromFn.{fill_by_all}
 use Rattle.std.proofs.lemmas.List.Sums.{AllPass-from_list_all}

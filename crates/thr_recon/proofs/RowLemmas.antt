@@ -1,11 +1,11 @@
 -- Rows and blocks of eight, entry by entry. The calls of `rows`, `Predictor::block` and `rebuild_block` cite these, and crates above.
-use Rattle.std.proofs.Common.{◌≡◌, ◌∙◌, ℕ, ℤ, pos, negsuc, ◌+◌, ◌+ℤ◌, ◌*◌, ◌/◌, ◌%◌, ◌<◌, List, [], ◌∷◌, length, get_or, map, refl, ap, arith}
+use Rattle.std.proofs.Common.{◌≡◌, ◌∙◌, ℕ, ℤ, pos, negsuc, ◌+◌, ◌+ℤ◌, ◌*◌, ◌/◌, ◌%◌, ◌^◌, ◌<◌, List, [], ◌∷◌, length, get_or, map, replicate, refl, sym, ap, arith}
 use Rattle.std.specs.List.{range_with_len}
 use Rattle.std.specs.Int.{int_max, int_min, w16}
 use Rattle.std.proofs.lemmas.Int.{ints, clamps}
-use Rattle.std.proofs.lemmas.Simd.{get_or_narrower}
+use Rattle.std.proofs.lemmas.Simd.{get_or_narrower, get_or-zip2, length-zip2, get_or-replicate, length-replicate}
 use Rattle.std.proofs.lemmas.List.FromFn.{get_or-map-range_with_len}
-use lib.Lanes.{Each1, number_l, digits_l}
+use lib.Lanes.{Each1, number_l, digits_l, zip2}
 use mir.Val.{of_z}
 use Rattle.thr_recon.specs.Rebuilt.{block_of, rebuilt, sample_of}
 
@@ -41,3 +41,17 @@ pub bounded_sum : (s m : ℕ) (z y x : ℤ) → s < 256 → y ≡ int_max (negsu
     → m ≡ sample_of (pos s +ℤ z)
 unfolding sample_of
 bounded_sum s m z y x small inner outer e = omega (arith, ints, clamps)
+
+-- the mean of two lanes
+pub lane_mean : (p q a b : List ℕ) (k : ℕ) → p ≡ a → q ≡ b → length a ≡ 8 → length b ≡ 8 → k < 8 → get_or a k 0 < 256 → get_or b k 0 < 256
+    → get_or (zip2 (λ x s. x / 2 ^ s) (zip2 (λ x y. (x + y) % 65536) p q) (replicate 8 1)) k 0 % 256 ≡ (get_or a k 0 + get_or b k 0) / 2
+lane_mean p q a b k e h long_a long_b inside small_a small_b =
+    let sums : List ℕ = zip2 (λ x y. (x + y) % 65536) a b in
+    let long : length sums ≡ 8 = length-zip2 (λ x y. (x + y) % 65536) a b (long_a ∙ sym long_b) ∙ long_a in
+    let sum : get_or sums k 0 ≡ (get_or a k 0 + get_or b k 0) % 65536 = get_or-zip2 (λ x y. (x + y) % 65536) a b k 0 0 0 (omega arith) (omega arith) in
+    let ones : List ℕ = replicate 8 1 in
+    let one : get_or ones k 0 ≡ 1 = get_or-replicate {A = ℕ} 8 k 1 0 inside in
+    let eight_ones : length ones ≡ 8 = length-replicate {A = ℕ} 8 1 in
+    let half : get_or (zip2 (λ x s. x / 2 ^ s) sums ones) k 0 ≡ get_or sums k 0 / 2 ^ get_or ones k 0
+    = get_or-zip2 (λ x s. x / 2 ^ s) sums ones k 0 0 0 (omega arith) (omega arith) in
+    rw (e, h, half, sum, one) (omega arith)

@@ -17,26 +17,17 @@ fn low_bytes(row: [u16; 8]) -> [u8; 8]
         .to_array()
 }
 
-fn mean(a: u8, b: u8) -> u16
-    ensures value { result ≡ (a + b) / 2 }
-    ensures small { result < 256 }
+// The samples of a row as lanes of 16 bits.
+fn wide(row: &[u8; 8]) -> u16x8
+    ensures { result ≡ row.now }
 {
-    (u16::from(a) + u16::from(b)) / 2
+    u8x8::from_array(*row).cast::<u16>()
 }
 
 fn mean_row(a: &[u8; 8], b: &[u8; 8]) -> [u8; 8]
     ensures { result ≡ map (λ u. (slice_index a.now u + slice_index b.now u) / 2) (range_with_len 0 8) }
 {
-    low_bytes([
-        mean(a[0], b[0]),
-        mean(a[1], b[1]),
-        mean(a[2], b[2]),
-        mean(a[3], b[3]),
-        mean(a[4], b[4]),
-        mean(a[5], b[5]),
-        mean(a[6], b[6]),
-        mean(a[7], b[7]),
-    ])
+    low_bytes(((wide(a) + wide(b)) >> u16x8::splat(1)).to_array())
 }
 
 /// The means of the samples of two blocks, rounded downwards (Theora I, 7.9.1.3).

@@ -1,6 +1,6 @@
 use Rattle.std.proofs.Common.{rules, arith, pos, ◌+ℤ◌, get_or}
 use Rattle.std.specs.Int.{w16}
-use Rattle.std.proofs.lemmas.Int.{ints, to_z-of_z}
+use Rattle.std.proofs.lemmas.Int.{to_z-of_z}
 use Rattle.thr_recon.proofs.RowLemmas.{bounded_sum}
 use Rattle.thr_recon.proofs.rows.rebuilt_sample.Goals as goal
 use mir.Val.{SFits}
