@@ -8,6 +8,7 @@ use std::process::Abort;
 use thr_setup::{import_setup, write_setup};
 use vid_desk::{Desk, MemDesk};
 
+mod again;
 mod refusals;
 
 // An identification header of 16 by 16 samples, 4:2:0, 25 frames a second, shift 6.
