@@ -370,6 +370,7 @@ same_again bytes mark h =
   where
     taken : (xs : List ℕ) → drop 27 (take (27 + length mark.lacing + sum mark.lacing) xs) ≡ take (length mark.lacing + sum mark.lacing) (drop 27 xs)
     taken xs = let e : 27 + length mark.lacing + sum mark.lacing ≡ 27 + (length mark.lacing + sum mark.lacing) = omega arith in ap (λ n. drop 27 (take n xs)) e ∙ drop-take 27 (length mark.lacing + sum mark.lacing) xs
+
     taken_at : (xs : List ℕ) → drop 22 (take (27 + length mark.lacing + sum mark.lacing) xs) ≡ take (5 + length mark.lacing + sum mark.lacing) (drop 22 xs)
     taken_at xs = let e : 27 + length mark.lacing + sum mark.lacing ≡ 22 + (5 + length mark.lacing + sum mark.lacing) = omega arith in ap (λ n. drop 22 (take n xs)) e ∙ drop-take 22 (5 + length mark.lacing + sum mark.lacing) xs
 
@@ -380,10 +381,10 @@ pub gather_on : (bytes : List ℕ) (marks : List PageMark) (number first : ℕ) 
 gather_on bytes marks number first none front body lacing low e laced =
     let mark = get_or marks number none in
     ap (first_packet front) (
-      segments_there bytes marks number first none low
-      ∙ ap (λ n. drop first (segments_at bytes mark) ++ segments_from bytes marks (record { page = number + 1; segment = first - n })) (segments_count mark.lacing (body_at bytes mark))
-      ∙ ap (λ b. drop first (segments mark.lacing b) ++ segments_from bytes marks (record { page = number + 1; segment = first - length mark.lacing })) (sym e)
-      ∙ ap (λ ns. drop first (segments ns body) ++ segments_from bytes marks (record { page = number + 1; segment = first - length mark.lacing })) laced
+    segments_there bytes marks number first none low
+    ∙ ap (λ n. drop first (segments_at bytes mark) ++ segments_from bytes marks (record { page = number + 1; segment = first - n })) (segments_count mark.lacing (body_at bytes mark))
+    ∙ ap (λ b. drop first (segments mark.lacing b) ++ segments_from bytes marks (record { page = number + 1; segment = first - length mark.lacing })) (sym e)
+    ∙ ap (λ ns. drop first (segments ns body) ++ segments_from bytes marks (record { page = number + 1; segment = first - length mark.lacing })) laced
     )
 
 no_shorter_than : (front bytes : List ℕ) (ends : Bool) (pieces : List Piece) (packet : List ℕ) → first_packet front (record { bytes = bytes; ends = ends } ∷ pieces) ≡ Some packet → length front + length bytes ≤ length packet

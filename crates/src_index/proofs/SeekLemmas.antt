@@ -56,7 +56,7 @@ none_inside bytes at size start before inside place low page = elim (cases_lt pl
   | inl earlier ↦ before place earlier page
   | inr later ↦ elim (cases_lt at place) [
     | inl past ↦ absurd (inside (place - at) (omega (arith, past)) (omega (arith, low, later, past))
-      (subst (λ xs. IsOk (page_at_front xs)) (there past) page))
+        (subst (λ xs. IsOk (page_at_front xs)) (there past) page))
     | inr same ↦ let here : at ≡ place = omega (arith, later, same) in subst (IsStart bytes) here start
   ]
 ]

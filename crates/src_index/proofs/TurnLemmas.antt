@@ -89,10 +89,10 @@ page_segments bytes at checksum page e =
     let body : body_of front ≡ page.body = ap (λ (p : Page). p.body) is.2 in
     let count : length page.lacing ≡ get_or front 26 0 = omega (arith, ap length lacing, length-take (get_or front 26 0) (drop 27 front), length-drop 27 front, is.0, is.1) in
     ap (segments page.lacing) (
-      ap (λ n. take (sum page.lacing) (drop n bytes)) (omega (arith, count))
-      ∙ ap (take (sum page.lacing)) (sym (drop-drop (27 + get_or front 26 0) at bytes))
-      ∙ ap (λ ns. take (sum ns) (drop (27 + get_or front 26 0) front)) (sym lacing)
-      ∙ body
+    ap (λ n. take (sum page.lacing) (drop n bytes)) (omega (arith, count))
+    ∙ ap (take (sum page.lacing)) (sym (drop-drop (27 + get_or front 26 0) at bytes))
+    ∙ ap (λ ns. take (sum ns) (drop (27 + get_or front 26 0) front)) (sym lacing)
+    ∙ body
     )
 
 -- what is kept of the packets, behind a page
@@ -171,6 +171,7 @@ ends_well judging bytes ident comment setup size input walk whole e three f =
     not_true : (b : Bool) → not b ≡ true → b ≡ false
     not_true true h = sym h
     not_true false h = refl
+
     not_false : (b : Bool) → not b ≡ false → b ≡ true
     not_false true h = refl
     not_false false h = sym h

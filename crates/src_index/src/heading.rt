@@ -4,8 +4,8 @@ ghost use Rattle.vid_base.specs.Reading.{Refuses};
 ghost use Rattle.src_index.specs.Heads.{header_step};
 ghost use Rattle.src_index.specs.Headers.{packets_in};
 
-use crate::heads::Known;
 use crate::headers::{AllHeaders, Headers, IdentHeader, SetupHeader};
+use crate::heads::Known;
 use std::alloc::Global;
 use thr_ident::{read_comment, read_ident};
 use thr_setup::read_setup;

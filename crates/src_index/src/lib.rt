@@ -7,8 +7,8 @@
 mod ahead;
 mod false_pages;
 mod fault;
-mod heading;
 mod headers;
+mod heading;
 mod heads;
 mod judge;
 pub mod laws;

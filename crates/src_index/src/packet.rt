@@ -15,8 +15,8 @@ ghost use Rattle.src_index.specs.SamePage.{same_page as same_page_of};
 
 use crate::SourceFault;
 use crate::heads::{MOST_BYTES, is_key};
-use crate::pages::{HEADER, Kept, Pages, page_size};
 use crate::packets::Place;
+use crate::pages::{HEADER, Kept, Pages, page_size};
 use crate::same::same_page;
 use crate::source::Source;
 use std::alloc::{AllocError, Global};
@@ -136,7 +136,12 @@ fn gather<D: Desk>(
             Ok(page) => page,
             Err(fault) => return Err(fault),
         };
-        match add_segments(kept.lacing, &page[HEADER + kept.lacing.len()..], first, into) {
+        match add_segments(
+            kept.lacing,
+            &page[HEADER + kept.lacing.len()..],
+            first,
+            into,
+        ) {
             Ok(true) => return Ok(()),
             Ok(false) => {}
             Err(fault) => return Err(fault),
@@ -190,7 +195,12 @@ impl Source {
     /// after a refusal. `Changed` says that a page read now is not the one that was loaded (`same_page`), or that the packet
     /// read is a key frame where the loaded one was none, or the other way round, as can be where a checksum agrees by
     /// chance. Over a desk that tells its inputs it never comes.
-    pub fn packet<D: Desk>(&self, desk: &mut D, n: u32, into: &mut Vec<u8>) -> Result<(), SourceFault>
+    pub fn packet<D: Desk>(
+        &self,
+        desk: &mut D,
+        n: u32,
+        into: &mut Vec<u8>,
+    ) -> Result<(), SourceFault>
         requires frame { n < frame_count self.now }
         requires id { self.now.input < (D.sees desk.old).found }
         requires made { IsLoadedFrom (D.sees desk.old) self.now.input self.now }

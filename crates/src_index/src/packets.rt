@@ -7,8 +7,8 @@ ghost use Rattle.src_index.specs.Heads.{unknown, packet_step, packets_over, page
 ghost use Rattle.src_index.specs.Refusing.{RefusesAs};
 
 use crate::fault::{Fault, Refusal};
-use crate::heading::with_header;
 use crate::headers::Headers;
+use crate::heading::with_header;
 use crate::heads::{HEADERS, Known, MOST_BYTES, MOST_PACKETS, is_key, quantiser_behind};
 use crate::pages::Pages;
 use ogg_page::PageRef;
@@ -171,13 +171,7 @@ impl Packets {
 
     // A segment more, behind which a packet would begin at the place `next`.
     #[tactic(auto, unfolding(crate::specs::Heads::packets_over, ogg_page::specs::Packets::packets_from, ogg_page::specs::Packets::left_from))]
-    fn add_segment(
-        &mut self,
-        at: u64,
-        next: Place,
-        bytes: &[u8],
-        ends: bool,
-    ) -> Result<(), Refusal>
+    fn add_segment(&mut self, at: u64, next: Place, bytes: &[u8], ends: bool) -> Result<(), Refusal>
         requires counted { IsCounted self.old }
         ensures counted { OnOk result (IsCounted self.new) }
         ensures known { OnOk result (packets_over at self.old.known (packets_from self.old.begun.items (record { bytes = bytes.now; ends = ends } ∷ [])) ≡ Ok self.new.known) }
@@ -195,7 +189,13 @@ impl Packets {
 
     // The segments of a page's body, which is the page of the track with this number.
     #[tactic(auto, unfolding(crate::specs::Heads::packets_over, crate::specs::Kept::with_pieces, ogg_page::specs::Packets::packets_from, ogg_page::specs::Packets::left_from, ogg_page::specs::Packets::segments))]
-    fn add_segments(&mut self, at: u64, page: usize, lacing: &[u8], body: &[u8]) -> Result<(), Refusal>
+    fn add_segments(
+        &mut self,
+        at: u64,
+        page: usize,
+        lacing: &[u8],
+        body: &[u8],
+    ) -> Result<(), Refusal>
         requires counted { IsCounted self.old }
         requires shape { HasShape lacing.now body.now }
         ensures counted { OnOk result (IsCounted self.new) }

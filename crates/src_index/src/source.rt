@@ -11,8 +11,8 @@ ghost use Rattle.src_index.specs.Finding.{Finds};
 
 use crate::SourceFault;
 use crate::fault::{Fault, Refusal};
-use crate::heading::all_of;
 use crate::headers::AllHeaders;
+use crate::heading::all_of;
 use crate::judge::Judging;
 use crate::load::judge_pages;
 use crate::packets::{Frame, Packets};

@@ -46,7 +46,7 @@ pages-preserved g c = record {
       let marks = marks_of c.args.pages.now in
       let now = still (g.D.Desk.sees c.args.desk.now) (g.D.Desk.sees c.pages.desk) files c.pages.invariant.kept told in
       let front = 27 + length c.page-kept.result.lacing.now in
-    let body : take (length c.deref.result.now - front) (drop front c.deref.result.now) ≡ body_at bytes (get_or marks c.pages.number no_mark) =
+      let body : take (length c.deref.result.now - front) (drop front c.deref.result.now) ≡ body_at bytes (get_or marks c.pages.number no_mark) =
       from_place front c.deref.result.now ∙ ap (drop front) c.deref.ensures.value ∙ c.in-Ok.ensures.bytes files now ∙ ap (body_at bytes) c.page-kept.ensures.mark in
       let rest = segments_from bytes marks (record { page = c.pages.number + 1; segment = c.pages.first - length (get_or marks c.pages.number no_mark).lacing }) in
       let lacing : (get_or marks c.pages.number no_mark).lacing ≡ c.page-kept.result.lacing.now = ap (λ (m : PageMark). m.lacing) (sym c.page-kept.ensures.mark) in
