@@ -10,7 +10,7 @@ use Rattle.cut_desk.specs.Statuses.{IsOutside}
 use Rattle.cut_desk.proofs.InputLemmas.{not_absent}
 use Rattle.cut_slice.proofs.CauseLemmas.{one_status as one_of_cut}
 use Rattle.cut_report.specs.declared.status.Status.{Status}
-use Rattle.cut_report.specs.declared.status.Status.TheVariants.{Done, Usage, NoFile, BadSource, ReadFault, WriteFault, NoMem, TooLong, InPointNotKey, NotYet}
+use Rattle.cut_report.specs.declared.status.Status.TheVariants.{Done, Usage, NoFile, BadSource, ReadFault, WriteFault, NoMem, TooLong, Changed, InPointNotKey, NotYet}
 use Rattle.cut_app.specs.Forms.{Form}
 use Rattle.cut_app.specs.Forms.Form.{Checking, Cutting}
 use Rattle.cut_app.specs.Texts.{IsFound}
@@ -36,7 +36,7 @@ status_of (Judged (Err fault)) = BadSource first_file (what_of fault)
 
 -- each status has such an end, but for those that no input is the cause of
 end_of : (file : List ℕ) (files : List File) (status : Status) → CheckCaused file files status → IsOutside status ⊎ ((end : End) × IsEnd file files end × (status ≡ status_of end))
-end_of file files Done cause = inr (Judged (Ok cause.0.packets), cause.1, refl)
+end_of file files Done cause = inr (Judged (Ok cause.0), cause.1, refl)
 end_of file files (NoFile input) cause = elim cause [
   | inl first ↦ inr (Absent, first.1, ap (λ n. NoFile n) first.0)
   | inr none ↦ absurd none.1
@@ -50,6 +50,7 @@ end_of file files (TooLong input size) cause = elim cause.1 [
   | inr none ↦ absurd none.1
 ]
 end_of file files Usage cause = absurd cause
+end_of file files Changed cause = absurd cause
 end_of file files InPointNotKey cause = absurd cause
 end_of file files NotYet cause = absurd cause
 end_of file files ReadFault cause = inl tt
@@ -143,6 +144,7 @@ calm_outside old new WriteFault outside read write calm = absurd (calm.1 (write 
 calm_outside old new NoMem outside read write calm = inr refl
 calm_outside old new Done outside read write calm = inl refl
 calm_outside old new Usage outside read write calm = absurd outside
+calm_outside old new Changed outside read write calm = absurd outside
 calm_outside old new (NoFile input) outside read write calm = absurd outside
 calm_outside old new (BadSource source what) outside read write calm = absurd outside
 calm_outside old new (TooLong input size) outside read write calm = absurd outside

@@ -8,7 +8,7 @@ use Rattle.vid_desk.specs.declared.fault.DeskFault.TheVariants.{Failed, NoMem as
 use Rattle.cut_desk.specs.Statuses.{writing_status}
 use Rattle.cut_report.specs.Lines.{fault_text}
 use Rattle.cut_report.specs.declared.status.Status.{Status}
-use Rattle.cut_report.specs.declared.status.Status.TheVariants.{Done, Usage, NoFile, BadSource, ReadFault, WriteFault, NoMem, TooLong, InPointNotKey, NotYet}
+use Rattle.cut_report.specs.declared.status.Status.TheVariants.{Done, Usage, NoFile, BadSource, ReadFault, WriteFault, NoMem, TooLong, Changed, InPointNotKey, NotYet}
 use Rattle.cut_app.specs.Forms.{Form}
 use Rattle.cut_app.specs.Texts.{BreaksOff, HasSaid, IsFirstPart, IsTextOf, SaysLine, SaysOn, StopsAt}
 use Rattle.cut_app.specs.Commands.{Tells}
@@ -51,6 +51,7 @@ said_first : (old new : Meaning) (form : Form) (status : Status) → StopsAt for
 said_first old new form WriteFault stops = stops
 said_first old new form Done stops = ([], said_nothing old new stops, inl refl)
 said_first old new form Usage stops = ([], said_nothing old new stops, inl refl)
+said_first old new form Changed stops = ([], said_nothing old new stops, inl refl)
 said_first old new form (NoFile input) stops = ([], said_nothing old new stops, inl refl)
 said_first old new form (BadSource source what) stops = ([], said_nothing old new stops, inl refl)
 said_first old new form ReadFault stops = ([], said_nothing old new stops, inl refl)
@@ -80,6 +81,7 @@ says_status old mid new form WriteFault stops not_done later outputs says = brea
 says_status old mid new form NoMem stops not_done later outputs says = breaks old mid new form NoMem (fault_text NoMem) stops outputs says
 says_status old mid new form Done stops not_done later outputs says = absurd (not_done refl)
 says_status old mid new form Usage stops not_done later outputs says = line_since old mid new (fault_text Usage) stops later says
+says_status old mid new form Changed stops not_done later outputs says = line_since old mid new (fault_text Changed) stops later says
 says_status old mid new form (NoFile input) stops not_done later outputs says = line_since old mid new (fault_text (NoFile input)) stops later says
 says_status old mid new form (BadSource source what) stops not_done later outputs says = line_since old mid new (fault_text (BadSource source what)) stops later says
 says_status old mid new form ReadFault stops not_done later outputs says = line_since old mid new (fault_text ReadFault) stops later says

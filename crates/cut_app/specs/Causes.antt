@@ -4,8 +4,7 @@ use Rattle.vid_desk.specs.Meaning.{File}
 use Rattle.src_index.specs.declared.fault.Fault.{Fault}
 use Rattle.src_index.specs.declared.fault.Fault.TheVariants.{InPacket, InPage, InLink}
 use Rattle.src_index.specs.declared.fault.SourceFault.{SourceFault}
-use Rattle.src_index.specs.declared.fault.SourceFault.TheVariants.{Bad, Page as PageFault, Link as LinkFault, TooLong as LongFile, ReadFault as ReadFailed, Changed, NoMem as NoMemory}
-use Rattle.src_index.specs.Track.{Track}
+use Rattle.src_index.specs.declared.fault.SourceFault.TheVariants.{Bad, Page as PageFault, Link as LinkFault, TooLong as LongFile, ReadFault as ReadFailed, Changed as IsAnother, NoMem as NoMemory}
 use Rattle.src_index.specs.Loading.{longest}
 use Rattle.cut_desk.specs.Inputs.{First, IsMissing, IsTooLong, IsWithin, Limited}
 use Rattle.cut_desk.specs.Statuses.{IsOutside}
@@ -13,14 +12,14 @@ use Rattle.cut_slice.specs.Cause.{Caused}
 use Rattle.cut_report.specs.declared.status.SourceWhat.{SourceWhat}
 use Rattle.cut_report.specs.declared.status.SourceWhat.TheVariants.{Packet, Page, Link}
 use Rattle.cut_report.specs.declared.status.Status.{Status}
-use Rattle.cut_report.specs.declared.status.Status.TheVariants.{Done, Usage, NoFile, BadSource, ReadFault, WriteFault, NoMem, TooLong, InPointNotKey, NotYet}
+use Rattle.cut_report.specs.declared.status.Status.TheVariants.{Done, Usage, NoFile, BadSource, ReadFault, WriteFault, NoMem, TooLong, Changed, InPointNotKey, NotYet}
 use Rattle.cut_app.specs.Forms.{Form}
 use Rattle.cut_app.specs.Forms.Form.{Checking, Cutting}
 use Rattle.cut_app.specs.Texts.{IsFound}
 
 -- the first check that fails, as a status names it
 abbrev pub what_of : Fault → SourceWhat
-what_of (InPacket link packet fault) = Packet link packet fault
+what_of (InPacket link packet at fault) = Packet link packet fault
 what_of (InPage at fault) = Page at fault
 what_of (InLink at fault) = Link at fault
 
@@ -30,13 +29,13 @@ first_file = 1
 
 -- the status of a check whose file gives no source
 abbrev pub refusal_status : SourceFault → Status
-refusal_status (Bad link packet fault) = BadSource first_file (what_of (InPacket link packet fault))
+refusal_status (Bad link packet fault) = BadSource first_file (Packet link packet fault)
 refusal_status (PageFault at fault) = BadSource first_file (what_of (InPage at fault))
 refusal_status (LinkFault at fault) = BadSource first_file (what_of (InLink at fault))
 refusal_status (LongFile size) = TooLong first_file size
 refusal_status NoMemory = NoMem
 refusal_status ReadFailed = ReadFault
-refusal_status Changed = ReadFault
+refusal_status IsAnother = Changed
 
 -- an input that is a source, and how many bytes it may have
 abbrev pub source_input : List ℕ → Limited
@@ -44,7 +43,7 @@ source_input name = record { name = name; most = longest }
 
 -- judging finds no fault in that source
 abbrev pub IsSound : List File → List ℕ → Type 0
-IsSound files name = (track : Track) × IsFound files name (Ok track.packets)
+IsSound files name = (packets : List (List ℕ)) × IsFound files name (Ok packets)
 
 -- judging finds this fault in that source
 abbrev pub HasFault : List File → SourceWhat → List ℕ → Type 0
@@ -65,6 +64,7 @@ CheckCaused file files ReadFault = ⊤
 CheckCaused file files WriteFault = ⊤
 CheckCaused file files NoMem = ⊤
 CheckCaused file files Usage = ⊥
+CheckCaused file files Changed = ⊥
 CheckCaused file files InPointNotKey = ⊥
 CheckCaused file files NotYet = ⊥
 
@@ -77,6 +77,7 @@ IsChecking ReadFault = ⊤
 IsChecking NoMem = ⊤
 IsChecking Done = ⊥
 IsChecking Usage = ⊥
+IsChecking Changed = ⊥
 IsChecking WriteFault = ⊥
 IsChecking InPointNotKey = ⊥
 IsChecking NotYet = ⊥

@@ -1,17 +1,18 @@
 -- What a command says (own).
-use Rattle.std.specs.Prelude.{◌≡◌, ℕ, List, [], ◌++◌, length, filter, drop, Option, Some, Ok, ◌⊎◌}
+use Rattle.std.specs.Prelude.{◌≡◌, ℕ, Bool, true, false, List, [], ◌++◌, length, filter, Option, Some, Ok, ◌⊎◌}
 use Rattle.std.specs.Option.{option_map}
 use Rattle.vid_desk.specs.Meaning.{File, Meaning, ToldFiles, Rose}
 use Rattle.ogg_page.specs.Granule.{is_key}
 use Rattle.thr_ident.specs.declared.ident.Ident.{Ident}
 use Rattle.thr_ident.specs.Ident.{ident_of, header_of}
-use Rattle.src_index.specs.Track.{Track, packet_at, frame_count, headers}
+use Rattle.src_index.specs.Track.{frames_of, packet_at}
+use Rattle.src_index.specs.Seekable.{IsSeekable}
 use Rattle.src_index.specs.Judge.{Verdict}
-use Rattle.src_index.specs.Loading.{IsJudged}
+use Rattle.src_index.specs.Loading.{IsJudged, longest}
 use Rattle.cut_desk.specs.Inputs.{contents}
-use Rattle.cut_report.specs.Lines.{fault_text, link_text}
+use Rattle.cut_report.specs.Lines.{fault_text, link_text, seekable_text}
 use Rattle.cut_report.specs.declared.status.Status.{Status}
-use Rattle.cut_report.specs.declared.status.Status.TheVariants.{Done, Usage, NoFile, BadSource, ReadFault, WriteFault, NoMem, TooLong, InPointNotKey, NotYet}
+use Rattle.cut_report.specs.declared.status.Status.TheVariants.{Done, Usage, NoFile, BadSource, ReadFault, WriteFault, NoMem, TooLong, Changed, InPointNotKey, NotYet}
 use Rattle.cut_app.specs.Forms.{Form}
 use Rattle.cut_app.specs.Forms.Form.{Checking, Cutting}
 
@@ -19,23 +20,26 @@ use Rattle.cut_app.specs.Forms.Form.{Checking, Cutting}
 pub record IsFound (files : List File) (name : List ℕ) (verdict : Verdict) : Type 0 where
   pub bytes : List ℕ
   pub there : contents files name ≡ Some bytes
-  pub judged : IsJudged bytes verdict
+  pub judged : IsJudged longest bytes verdict
 
--- how many key frames a track has
-abbrev pub key_count : Track → ℕ
-key_count track = length (filter is_key (drop headers track.packets))
+-- how many of these packets of a track are key frames
+abbrev pub key_count : List (List ℕ) → ℕ
+key_count packets = length (filter is_key (frames_of packets))
 
--- the line of a track's one link
-pub record IsTrackText (track : Track) (text : List ℕ) : Type 0 where
+-- the line of a track's one link, and the line that says whether its file is seekable
+pub record IsTrackText (bytes : List ℕ) (packets : List (List ℕ)) (text : List ℕ) : Type 0 where
   pub ident : Ident
-  pub header : ident_of (packet_at track 0) ≡ Ok (header_of ident)
-  pub text_is : text ≡ link_text 1 ident (frame_count track) (key_count track)
+  pub answer : Bool
+  pub header : ident_of (packet_at packets 0) ≡ Ok (header_of ident)
+  pub seekable : answer ≡ true → IsSeekable bytes
+  pub not_seekable : answer ≡ false → ¬ IsSeekable bytes
+  pub text_is : text ≡ link_text 1 ident (length (frames_of packets)) (key_count packets) ++ seekable_text answer
 
--- the text of a check that was done: the line of the track that judging finds in the file
+-- the text of a check that was done: the lines of the track that judging finds in the file
 pub record IsCheckText (files : List File) (file text : List ℕ) : Type 0 where
-  pub track : Track
-  pub found : IsFound files file (Ok track.packets)
-  pub line : IsTrackText track text
+  pub packets : List (List ℕ)
+  pub found : IsFound files file (Ok packets)
+  pub lines : IsTrackText found.bytes packets text
 
 -- the text of a command that was done, by its inputs and by the outputs that it left, where these are told; a cut says nothing
 abbrev pub IsTextOf : Form → List File → Option (List File) → List ℕ → Type 0
@@ -59,6 +63,7 @@ abbrev pub StopsAt : Form → Meaning → Meaning → Status → Type 0
 StopsAt form old new WriteFault = (first : List ℕ) × HasSaid old new first × IsFirstPart old new.outputs form first
 StopsAt form old new Done = new.said ≡ old.said
 StopsAt form old new Usage = new.said ≡ old.said
+StopsAt form old new Changed = new.said ≡ old.said
 StopsAt form old new (NoFile input) = new.said ≡ old.said
 StopsAt form old new (BadSource source what) = new.said ≡ old.said
 StopsAt form old new ReadFault = new.said ≡ old.said
@@ -82,6 +87,7 @@ SaysOn form old new Done = ToldFiles old (λ files. (text : List ℕ) × IsTextO
 SaysOn form old new WriteFault = BreaksOff old new form (fault_text WriteFault)
 SaysOn form old new NoMem = BreaksOff old new form (fault_text NoMem)
 SaysOn form old new Usage = SaysLine old new (fault_text Usage)
+SaysOn form old new Changed = SaysLine old new (fault_text Changed)
 SaysOn form old new (NoFile input) = SaysLine old new (fault_text (NoFile input))
 SaysOn form old new (BadSource source what) = SaysLine old new (fault_text (BadSource source what))
 SaysOn form old new ReadFault = SaysLine old new (fault_text ReadFault)

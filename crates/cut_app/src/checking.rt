@@ -4,12 +4,14 @@ ghost use Rattle.vid_desk.specs.Meaning.{ToldFiles, Rose};
 ghost use Rattle.cut_desk.specs.Outputs.{Looks, Seeks};
 ghost use Rattle.cut_desk.specs.Statuses.{status_in};
 ghost use Rattle.cut_app.specs.Forms.Form.{Checking};
-ghost use Rattle.cut_app.specs.Texts.{key_count as key_count_of, HasSaid, IsCheckText, IsFound, IsTrackText, StopsAt};
+ghost use Rattle.cut_app.specs.Texts.{HasSaid, IsCheckText, StopsAt};
+ghost use Rattle.src_index.specs.Index.{keys_of};
+ghost use Rattle.cut_app.specs.Index.{marked, IsIndexText, IsRead};
 ghost use Rattle.cut_app.specs.Causes.{refusal_status, CheckCaused, IsChecking};
 ghost use Rattle.cut_app.specs.Commands.{ReadsAndSays};
 
 use cut_desk::{reading, writing};
-use cut_report::{SourceWhat, Status, link_line};
+use cut_report::{SourceWhat, Status, link_line, seekable_line};
 use src_index::{Source, SourceFault};
 use std::alloc::Global;
 use vid_base::NoMem;
@@ -23,7 +25,7 @@ const LINK: u32 = 1;
 
 // How many frames of a source are key frames.
 fn key_count(source: &Source) -> u32
-    ensures { result ≡ key_count_of source.now }
+    ensures { result ≡ marked (keys_of source.now) }
 {
     let mut keys = 0u32;
     'frames: for n in 0..source.frames() {
@@ -32,9 +34,9 @@ fn key_count(source: &Source) -> u32
     keys
 }
 
-// The line of the one link of a source.
+// The line of the one link of a source, and the line that says whether its file is seekable.
 fn check_text(alloc: Global, source: &Source) -> Result<Vec<u8>, NoMem>
-    ensures { IfOk result (λ text. IsTrackText source.now text.items) }
+    ensures { IfOk result (λ text. IsIndexText source.now text.items) }
 {
     let mut text = Vec::new(alloc);
     link_line(
@@ -44,6 +46,7 @@ fn check_text(alloc: Global, source: &Source) -> Result<Vec<u8>, NoMem>
         source.frames(),
         key_count(source),
     )?;
+    seekable_line(&mut text, source.seekable())?;
     Ok(text)
 }
 
@@ -57,7 +60,7 @@ fn bad(what: SourceWhat) -> Status
     }
 }
 
-// The status of a file that gives no source. A source that is loaded is never `Changed`.
+// The status of a file that gives no source.
 fn refused(fault: SourceFault) -> Status
     ensures { result ≡ refusal_status fault }
 {
@@ -79,13 +82,13 @@ fn refused(fault: SourceFault) -> Status
         },
         SourceFault::NoMem => Status::NoMem,
         SourceFault::ReadFault => Status::ReadFault,
-        SourceFault::Changed => Status::ReadFault,
+        SourceFault::Changed => Status::Changed,
     }
 }
 
 // Looks for the file and judges it.
 fn judge<D: Desk>(alloc: Global, desk: &mut D, file: &str) -> Result<Source, Status>
-    ensures found { IfOk result (λ source. ToldFiles (D.sees desk.old) (λ files. IsFound files file.now (Ok source.packets))) }
+    ensures found { IfOk result (λ source. ToldFiles (D.sees desk.old) (λ files. IsRead files file.now source)) }
     ensures caused { IfErr result (λ status. ToldFiles (D.sees desk.old) (λ files. CheckCaused file.now files status)) }
     ensures names { Seeks (D.sees desk.old).sought (D.sees desk.new).sought (file.now ∷ []) }
     ensures kept { Looks (D.sees desk.old) (D.sees desk.new) }
@@ -104,7 +107,7 @@ fn judge<D: Desk>(alloc: Global, desk: &mut D, file: &str) -> Result<Source, Sta
     }
 }
 
-/// Does `check FILE`: it judges the file, and says the line of its link.
+/// Does `check FILE`: it judges the file, and says the line of its link and whether it is seekable.
 pub(crate) fn check<D: Desk>(alloc: Global, desk: &mut D, file: &str) -> Result<(), Status>
     ensures caused { ToldFiles (D.sees desk.old) (λ files. CheckCaused file.now files (status_in result)) }
     ensures said { OnOk result (ToldFiles (D.sees desk.old) (λ files. (text : List ℕ) × IsCheckText files file.now text × HasSaid (D.sees desk.old) (D.sees desk.new) text)) }

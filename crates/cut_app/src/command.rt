@@ -55,7 +55,8 @@ fn run<D: Desk>(alloc: Global, desk: &mut D, command: Command) -> Result<(), Sta
 /// Does what the words say, over the desk's inputs, outputs and text, and tells how it ended.
 ///
 /// `check FILE` judges a file on the heads of its frames. The order of refusals is: the words; the file that is not there;
-/// a file of more than 268,435,456 bytes; the first check that fails. It says a line for the file's link.
+/// a file of more than 2^40 bytes; the first check that fails. It says a line for the file's link, and whether the file is
+/// seekable.
 ///
 /// `cut LIST OUT SRC` copies the slice of the list LIST out of the plain source SRC into the new output OUT. The order
 /// of refusals is: the words; names that are the same; inputs that are not there, in the order of the words; the form

@@ -140,7 +140,7 @@ const WHOLE: Case = Case {
     flags: 0,
     page: (4, 2, 64),
     frame: 0,
-    line: "link 1 picture 16x16 coded 16x16 pixels 420 rate 25:1 frames 1 keys 1\n",
+    line: "link 1 picture 16x16 coded 16x16 pixels 420 rate 25:1 frames 1 keys 1\nseekable yes\n",
 };
 
 fn file_of(rt: &(impl Abort + AllocGlobal), case: &Case) -> Vec<u8> {
@@ -397,10 +397,10 @@ impl Desk for LongInput {
 }
 
 #[test]
-fn a_file_of_more_than_268435456_bytes_is_too_long(rt: HostRuntime) {
+fn a_file_of_more_than_1099511627776_bytes_is_too_long(rt: HostRuntime) {
     for (size, status, line) in [
-        (268_435_457, 14, "fault 14 input 1 bytes 268435457\n"),
-        (268_435_456, 8, "fault 8 read\n"),
+        (1_099_511_627_777, 14, "fault 14 input 1 bytes 1099511627777\n"),
+        (1_099_511_627_776, 8, "fault 8 read\n"),
     ] {
         let mut desk = LongInput {
             size,

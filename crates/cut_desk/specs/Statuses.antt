@@ -4,7 +4,7 @@ use Rattle.vid_desk.specs.Meaning.{Meaning}
 use Rattle.vid_desk.specs.declared.fault.DeskFault.{DeskFault}
 use Rattle.vid_desk.specs.declared.fault.DeskFault.TheVariants.{Failed, NoMem as NoRoom}
 use Rattle.cut_report.specs.declared.status.Status.{Status}
-use Rattle.cut_report.specs.declared.status.Status.TheVariants.{Done, Usage, NoFile, BadSource, ReadFault, WriteFault, NoMem, TooLong, InPointNotKey, NotYet}
+use Rattle.cut_report.specs.declared.status.Status.TheVariants.{Done, Usage, NoFile, BadSource, ReadFault, WriteFault, NoMem, TooLong, Changed, InPointNotKey, NotYet}
 use Rattle.cut_desk.specs.Outputs.{LeavesOutputs}
 
 -- the status of a fault of a call that reads
@@ -29,6 +29,7 @@ IsOutside WriteFault = ⊤
 IsOutside NoMem = ⊤
 IsOutside Done = ⊥
 IsOutside Usage = ⊥
+IsOutside Changed = ⊥
 IsOutside (NoFile input) = ⊥
 IsOutside (BadSource source what) = ⊥
 IsOutside (TooLong input bytes) = ⊥
@@ -39,6 +40,7 @@ IsOutside NotYet = ⊥
 -- it, so a fault of reading is one of these; writing begins with it; and memory may be wanted before it and after it
 abbrev pub LeavesOutputsAt : Status → Meaning → Meaning → Type 0
 LeavesOutputsAt Usage old new = LeavesOutputs old new
+LeavesOutputsAt Changed old new = LeavesOutputs old new
 LeavesOutputsAt (NoFile input) old new = LeavesOutputs old new
 LeavesOutputsAt (BadSource source what) old new = LeavesOutputs old new
 LeavesOutputsAt (TooLong input bytes) old new = LeavesOutputs old new

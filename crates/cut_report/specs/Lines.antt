@@ -1,5 +1,5 @@
 -- The lines that are printed, and the numbers with which the program ends (own).
-use Rattle.std.specs.Prelude.{ℕ, ◌*◌, List, [], ◌++◌, codes, decimal, ◌==◌, if◌then◌else◌}
+use Rattle.std.specs.Prelude.{ℕ, ◌*◌, Bool, List, [], ◌++◌, codes, decimal, ◌==◌, if◌then◌else◌}
 use Rattle.vid_base.specs.Faults.{name_of as packet_fault}
 use Rattle.ogg_page.specs.Faults.{name_of as page_fault}
 use Rattle.ogg_link.specs.Faults.{name_of as link_fault}
@@ -8,7 +8,7 @@ use Rattle.cut_report.specs.Parts.{line_feed}
 use Rattle.cut_report.specs.declared.status.SourceWhat.{SourceWhat}
 use Rattle.cut_report.specs.declared.status.SourceWhat.TheVariants.{Packet, Page, Link}
 use Rattle.cut_report.specs.declared.status.Status.{Status}
-use Rattle.cut_report.specs.declared.status.Status.TheVariants.{Done, Usage, NoFile, BadSource, ReadFault, WriteFault, NoMem, TooLong, InPointNotKey, NotYet}
+use Rattle.cut_report.specs.declared.status.Status.TheVariants.{Done, Usage, NoFile, BadSource, ReadFault, WriteFault, NoMem, TooLong, Changed, InPointNotKey, NotYet}
 
 -- the number with which the program ends
 abbrev pub number_of : Status → ℕ
@@ -20,6 +20,7 @@ number_of ReadFault = 8
 number_of WriteFault = 9
 number_of NoMem = 10
 number_of (TooLong input bytes) = 14
+number_of Changed = 16
 number_of InPointNotKey = 18
 number_of NotYet = 19
 
@@ -43,6 +44,7 @@ fault_text ReadFault = codes "fault 8 read" ++ line_feed
 fault_text WriteFault = codes "fault 9 write" ++ line_feed
 fault_text NoMem = codes "fault 10 memory" ++ line_feed
 fault_text (TooLong input bytes) = codes "fault 14 input " ++ decimal input ++ codes " bytes " ++ decimal bytes ++ line_feed
+fault_text Changed = codes "fault 16 changed" ++ line_feed
 fault_text InPointNotKey = codes "fault 18 key" ++ line_feed
 fault_text NotYet = codes "fault 19 form" ++ line_feed
 
@@ -59,3 +61,7 @@ link_text link ident frames keys =
     ++ codes " pixels " ++ pixels_of ident.pf
     ++ codes " rate " ++ decimal ident.frn ++ codes ":" ++ decimal ident.frd
     ++ codes " frames " ++ decimal frames ++ codes " keys " ++ decimal keys ++ line_feed
+
+-- the line of a file that is seekable, or not
+unfoldable pub seekable_text : Bool → List ℕ
+seekable_text seekable = (if seekable then codes "seekable yes" else codes "seekable no") ++ line_feed

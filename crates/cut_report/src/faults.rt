@@ -71,6 +71,7 @@ pub fn fault_line(status: &Status) -> ArrayVec<u8, 128>
             Text(" bytes "),
             Number(bytes),
         ]),
+        Status::Changed => line(&[Text("fault 16 changed")]),
         Status::InPointNotKey => line(&[Text("fault 18 key")]),
         Status::NotYet => line(&[Text("fault 19 form")]),
     }

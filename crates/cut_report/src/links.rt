@@ -1,6 +1,6 @@
-// The line of a link (own).
+// The lines of a file that was judged: of a link, and whether it is seekable (own).
 ghost use Rattle.std.specs.Prelude.{◌≡◌, ◌++◌, OnOk, OnErr};
-ghost use Rattle.cut_report.specs.Lines.{link_text, pixels_of};
+ghost use Rattle.cut_report.specs.Lines.{link_text, pixels_of, seekable_text};
 
 use crate::line::Part::{Number, Text};
 use crate::line::line;
@@ -64,6 +64,28 @@ pub fn link_line(
     ensures memory { OnErr result (out.new.items ≡ out.old.items) }
 {
     let line = line_of_link(link, ident, frames, keys);
+    out.extend_from_slice(line.as_slice())?;
+    Ok(())
+}
+
+// The line of a file that is seekable, or not.
+#[tactic(auto, unfolding(crate::specs::Lines::seekable_text))]
+fn line_of_seekable(yes: bool) -> ArrayVec<u8, 16>
+    ensures { result.items ≡ seekable_text yes }
+{
+    if yes {
+        line(&[Text("seekable yes")])
+    } else {
+        line(&[Text("seekable no")])
+    }
+}
+
+/// Appends the line that says whether a file is seekable. After `NoMem` the bytes are those that were there.
+pub fn seekable_line(out: &mut Vec<u8>, yes: bool) -> Result<(), NoMem>
+    ensures text { OnOk result (out.new.items ≡ out.old.items ++ seekable_text yes) }
+    ensures memory { OnErr result (out.new.items ≡ out.old.items) }
+{
+    let line = line_of_seekable(yes);
     out.extend_from_slice(line.as_slice())?;
     Ok(())
 }

@@ -48,6 +48,8 @@ pub enum Status {
     /// That input, counted from 1 in the order of the words, is the first that has more bytes than its limit; `bytes` is
     /// its size.
     TooLong { input: u32, bytes: u64 },
+    /// A source is read again, and is not the one that was judged.
+    Changed,
     /// The frame at which the slice begins is no key frame, so it cannot be copied.
     InPointNotKey,
     /// The list or the source has a form that is not yet cut.
@@ -68,6 +70,7 @@ impl Status {
             Status::WriteFault => 9,
             Status::NoMem => 10,
             Status::TooLong { .. } => 14,
+            Status::Changed => 16,
             Status::InPointNotKey => 18,
             Status::NotYet => 19,
         }

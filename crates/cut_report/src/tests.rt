@@ -6,7 +6,7 @@ use vid_base::PacketFault;
 
 // Each status but that of a bad source, with the smallest and the largest numbers; the number with which the program
 // ends, and the line.
-const STATUSES: [(Status, u8, &str); 12] = [
+const STATUSES: [(Status, u8, &str); 13] = [
     (Status::Done, 0, ""),
     (Status::Usage, 2, "fault 2 usage\n"),
     (Status::NoFile { input: 0 }, 3, "fault 3 input 0 missing\n"),
@@ -39,6 +39,7 @@ const STATUSES: [(Status, u8, &str); 12] = [
         14,
         "fault 14 input 4294967295 bytes 18446744073709551615\n",
     ),
+    (Status::Changed, 16, "fault 16 changed\n"),
     (Status::InPointNotKey, 18, "fault 18 key\n"),
     (Status::NotYet, 19, "fault 19 form\n"),
 ];
@@ -190,12 +191,16 @@ fn lines_of_links_stand_behind_what_was_there(rt: HostRuntime) {
         ),
         Ok(())
     );
+    assert_eq!(rt; seekable_line(&mut out, true), Ok(()));
+    assert_eq!(rt; seekable_line(&mut out, false), Ok(()));
     assert_eq!(rt;
         out.as_slice(),
         b"before
 link 1 picture 16x16 coded 16x16 pixels 420 rate 25:1 frames 30 keys 3
 link 20 picture 8000x4001 coded 8192x4096 pixels 422 rate 30000:1001 frames 0 keys 0
 link 4294967295 picture 1048560x1 coded 1048560x32 pixels 444 rate 4294967295:4294967294 frames 4294967294 keys 4294967293
+seekable yes
+seekable no
 "
             .as_slice()
     );

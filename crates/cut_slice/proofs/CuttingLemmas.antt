@@ -15,7 +15,7 @@ use Rattle.cut_desk.specs.Outputs.{LeavesOutputs, Looks}
 use Rattle.cut_desk.proofs.InputLemmas.{not_absent}
 use Rattle.cut_slice.specs.Cause.{in_point, CanBeCut, Caused, CreatesWhenGiven, GivesBoth, IsGiven, IsReady, NotCovered, RefusesBoth, RefusesSource}
 use Rattle.cut_report.specs.declared.status.Status.{Status}
-use Rattle.cut_report.specs.declared.status.Status.TheVariants.{Done, Usage, NoFile, BadSource, ReadFault, WriteFault, NoMem, TooLong, InPointNotKey, NotYet}
+use Rattle.cut_report.specs.declared.status.Status.TheVariants.{Done, Usage, NoFile, BadSource, ReadFault, WriteFault, NoMem, TooLong, Changed, InPointNotKey, NotYet}
 
 no_bytes : (bytes : List ℕ) → length bytes ≡ 0 → bytes ≡ []
 no_bytes [] h = refl
@@ -77,6 +77,7 @@ created_since old mid new cut files slice bytes apart both looks created = elim 
 pub caused_by_source : (cut : Cut) (files : List File) (slice : Slice) (bytes : List ℕ) (status : Status) → clashes cut ≡ false → GivesBoth files cut.list cut.source slice bytes → RefusesSource slice bytes status → Caused cut files status
 caused_by_source cut files slice bytes Done apart both refused = absurd refused
 caused_by_source cut files slice bytes Usage apart both refused = absurd refused
+caused_by_source cut files slice bytes Changed apart both refused = absurd refused
 caused_by_source cut files slice bytes (NoFile input) apart both refused = absurd refused
 caused_by_source cut files slice bytes (BadSource source what) apart both refused = absurd refused
 caused_by_source cut files slice bytes (TooLong input size) apart both refused = absurd refused
@@ -99,6 +100,7 @@ caused_by_source cut files slice bytes NotYet apart both refused =
 pub caused_by_reading : (cut : Cut) (files : List File) (status : Status) → clashes cut ≡ false → RefusesBoth files cut.list cut.source status → Caused cut files status
 caused_by_reading cut files Done apart refused = absurd refused
 caused_by_reading cut files Usage apart refused = absurd refused
+caused_by_reading cut files Changed apart refused = absurd refused
 caused_by_reading cut files (NoFile input) apart refused = (apart, refused)
 caused_by_reading cut files (BadSource source what) apart refused = absurd refused
 caused_by_reading cut files (TooLong input size) apart refused = absurd refused

@@ -10,7 +10,7 @@ use Rattle.cut_desk.specs.Outputs.{LeavesOutputs, Makes}
 use Rattle.cut_slice.specs.SliceList.{Slice, slice_of}
 use Rattle.cut_slice.specs.Plain.{Packets, IsPlain, NotPlain, stream_of}
 use Rattle.cut_report.specs.declared.status.Status.{Status}
-use Rattle.cut_report.specs.declared.status.Status.TheVariants.{Done, Usage, NoFile, BadSource, ReadFault, WriteFault, NoMem, TooLong, InPointNotKey, NotYet}
+use Rattle.cut_report.specs.declared.status.Status.TheVariants.{Done, Usage, NoFile, BadSource, ReadFault, WriteFault, NoMem, TooLong, Changed, InPointNotKey, NotYet}
 
 -- the names are apart, and both inputs are there
 pub record IsGiven (cut : Cut) (files : List File) (list source : List ℕ) : Type 0 where
@@ -51,6 +51,7 @@ Missing files list source ReadFault = ⊤
 Missing files list source NoMem = ⊤
 Missing files list source Done = ⊥
 Missing files list source Usage = ⊥
+Missing files list source Changed = ⊥
 Missing files list source (BadSource at what) = ⊥
 Missing files list source WriteFault = ⊥
 Missing files list source (TooLong input bytes) = ⊥
@@ -61,6 +62,7 @@ Missing files list source NotYet = ⊥
 abbrev pub IsLooking : Status → Type 0
 IsLooking Done = ⊥
 IsLooking Usage = ⊥
+IsLooking Changed = ⊥
 IsLooking (NoFile input) = ⊤
 IsLooking (BadSource at what) = ⊥
 IsLooking ReadFault = ⊤
@@ -94,6 +96,7 @@ RefusesBoth files list source ReadFault = ⊤
 RefusesBoth files list source NoMem = ⊤
 RefusesBoth files list source Done = ⊥
 RefusesBoth files list source Usage = ⊥
+RefusesBoth files list source Changed = ⊥
 RefusesBoth files list source (BadSource at what) = ⊥
 RefusesBoth files list source WriteFault = ⊥
 RefusesBoth files list source (TooLong input bytes) = ⊥
@@ -103,6 +106,7 @@ RefusesBoth files list source InPointNotKey = ⊥
 abbrev pub IsReading : Status → Type 0
 IsReading Done = ⊥
 IsReading Usage = ⊥
+IsReading Changed = ⊥
 IsReading (NoFile input) = ⊤
 IsReading (BadSource at what) = ⊥
 IsReading ReadFault = ⊤
@@ -129,6 +133,7 @@ RefusesSource slice bytes WriteFault = ⊤
 RefusesSource slice bytes NoMem = ⊤
 RefusesSource slice bytes Done = ⊥
 RefusesSource slice bytes Usage = ⊥
+RefusesSource slice bytes Changed = ⊥
 RefusesSource slice bytes (NoFile input) = ⊥
 RefusesSource slice bytes (BadSource at what) = ⊥
 RefusesSource slice bytes ReadFault = ⊥
@@ -142,6 +147,7 @@ CanBeCut slice bytes = (packets : Packets) × IsPlain bytes packets × (slice.pa
 abbrev pub IsCutting : Status → Type 0
 IsCutting Done = ⊥
 IsCutting Usage = ⊥
+IsCutting Changed = ⊥
 IsCutting (NoFile input) = ⊥
 IsCutting (BadSource at what) = ⊥
 IsCutting ReadFault = ⊥
@@ -166,6 +172,7 @@ Caused cut files InPointNotKey = (slice : Slice) × (packets : Packets) × IsRea
 Caused cut files NotYet = (clashes cut ≡ true) ⊎ ((list : List ℕ) × (source : List ℕ) × IsGiven cut files list source × NotCovered list source)
 Caused cut files (NoFile input) = (clashes cut ≡ false) × IsMissing files (cut.list ∷ cut.source ∷ []) input
 Caused cut files Usage = ⊥
+Caused cut files Changed = ⊥
 Caused cut files (BadSource source what) = ⊥
 Caused cut files (TooLong input bytes) = ⊥
 Caused cut files ReadFault = ⊤

@@ -2,9 +2,9 @@
 use Rattle.std.proofs.Common.{◌≡◌, ℕ, ◌+◌, ◌-◌, ◌≤◌, List, ◌++◌, length, length-append, length-drop, length-take, take, drop, inl, inr, ap, sym, ◌∙◌, arith}
 use Rattle.std.proofs.lemmas.List.{drop-drop, drop-take, drop-append-le, take-append-drop, append_assoc, nil_from_length}
 use Rattle.std.proofs.Math.Seq.{drop-append_seam, take-append_seam, take-append-add}
-use Rattle.ogg_page.specs.Page.{Opens}
+use Rattle.src_index.specs.Windows.{OpensTwo}
 use Rattle.src_index.specs.declared.ahead.Ahead.{Ahead}
-use Rattle.src_index.specs.Ahead.{window_of, LiesIn, HasPage}
+use Rattle.src_index.specs.Ahead.{window_of, LiesIn, HasPages}
 
 -- the bytes behind those that lie ahead
 behind : (window rest bytes : List ℕ) (at : ℕ) → drop at bytes ≡ window ++ rest → drop (at + length window) bytes ≡ rest
@@ -50,8 +50,8 @@ pub window_length : (ahead : Ahead) → length (window_of ahead) ≡ ahead.past 
 window_length ahead =
     omega (arith, ahead.within, ahead.buf.ok.0, length-take (ahead.past - ahead.first) (drop ahead.first ahead.buf.items), length-drop ahead.first ahead.buf.items)
 
--- where they hold a page or all that is left, they open the bytes of the file from there on
-pub opens_ahead : (ahead : Ahead) (bytes : List ℕ) → LiesIn ahead bytes → HasPage ahead → Opens (window_of ahead) (drop ahead.at bytes)
+-- where they hold two pages or all that is left, they open the bytes of the file from there on
+pub opens_ahead : (ahead : Ahead) (bytes : List ℕ) → LiesIn ahead bytes → HasPages ahead → OpensTwo (window_of ahead) (drop ahead.at bytes)
 opens_ahead ahead bytes lies page = record {
   rest = lies.rest;
   whole = lies.whole;

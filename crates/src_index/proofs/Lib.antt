@@ -1,5 +1,12 @@
 pub mod VerdictLemmas
 pub mod HeadLemmas
 pub mod WalkLemmas
-pub mod AheadLemmas
-pub mod TurnLemmas
+mod PagesLemmas
+mod AheadLemmas
+mod LetterLemmas
+mod GatherLemmas
+mod FillLemmas
+mod SeekLemmas
+mod TurnLemmas
+pub mod IndexLemmas
+pub mod SourceLemmas

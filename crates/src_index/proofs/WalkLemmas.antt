@@ -14,7 +14,7 @@ use Rattle.ogg_link.specs.Walk.{step, ended, track_step, is_of_track, is_missing
 use Rattle.ogg_link.specs.Granules.{settled, last_frame, against_base, against_key}
 use Rattle.ogg_link.proofs.ProgressLemmas.{packets_counted}
 use Rattle.src_index.specs.declared.heads.Known.{Known}
-use Rattle.src_index.specs.Heads.{unknown, page_over, packets_over, most_packets}
+use Rattle.src_index.specs.Heads.{page_over, packets_over, most_packets}
 use Rattle.src_index.specs.Judge.{track_pieces}
 use Rattle.src_index.proofs.HeadLemmas.{passed, or_second, page_packets, packets_counted as heads_counted, packets_bounded}
 
@@ -96,11 +96,11 @@ settled_keeps state next shift h = elim state.settles as (λ (b : Bool). (if b t
 ] h
 
 -- the walk and what the packets tell count the same, page by page
-pub counts_on : (walk stepped settles : State) (page : Page) (begun left : List ℕ) (known next : Known) (shift : ℕ) → walk.progress.packets ≡ known.packets → known.packets ≤ most_packets
-    → step walk page ≡ Ok stepped → page_over known (packets_from begun (track_pieces walk page)) left ≡ Ok next → settled stepped shift ≡ Ok settles
+pub counts_on : (at : ℕ) (walk stepped settles : State) (page : Page) (begun left : List ℕ) (known next : Known) (shift : ℕ) → walk.progress.packets ≡ known.packets → known.packets ≤ most_packets
+    → step walk page ≡ Ok stepped → page_over at known (packets_from begun (track_pieces walk page)) left ≡ Ok next → settled stepped shift ≡ Ok settles
     → settles.progress.packets ≡ next.packets
-counts_on walk stepped settles page begun left known next shift same few h e g =
-    let over : packets_over known (packets_from begun (track_pieces walk page)) ≡ Ok next = page_packets known next (packets_from begun (track_pieces walk page)) left e in
+counts_on at walk stepped settles page begun left known next shift same few h e g =
+    let over : packets_over at known (packets_from begun (track_pieces walk page)) ≡ Ok next = page_packets at known next (packets_from begun (track_pieces walk page)) left e in
     let kept : settles.progress.packets ≡ stepped.progress.packets = ap (λ progress. progress.packets) (settled_keeps stepped settles shift g) in
     omega (
       arith,
@@ -108,17 +108,17 @@ counts_on walk stepped settles page begun left known next shift same few h e g =
       same,
       few,
       step_counts walk stepped page begun (omega (arith, same, few)) h,
-      heads_counted known next (packets_from begun (track_pieces walk page)) over,
-      packets_bounded known next (packets_from begun (track_pieces walk page)) over few,
+      heads_counted at known next (packets_from begun (track_pieces walk page)) over,
+      packets_bounded at known next (packets_from begun (track_pieces walk page)) over few,
     )
 
--- at an end without a fault the headers are there
-pub headers_there : (walk next : State) (known : Known) (packets : List (List ℕ)) → walk.progress.packets ≡ known.packets → packets_over unknown packets ≡ Ok known → ended walk ≡ Ok next → 3 ≤ length packets
+-- at an end without a fault three packets have ended
+pub three_there : (walk next : State) → ended walk ≡ Ok next → 3 ≤ walk.progress.packets
 unfolding ended
-headers_there walk next known packets same told h =
+three_there walk next h =
     let track = passed (is_none walk.track) NoTrack (if walk.progress.unfinished || nat_lt walk.progress.packets 3 then Err UnfinishedPacket else Ok walk) next h in
     let whole = passed (walk.progress.unfinished || nat_lt walk.progress.packets 3) UnfinishedPacket (Ok walk) next track.1 in
     elim (cases_lt walk.progress.packets 3) [
       | inl few ↦ absurd (true≢false (sym (or_second walk.progress.unfinished (nat_lt walk.progress.packets 3) (lt-ltb walk.progress.packets 3 few)) ∙ whole.0))
-      | inr many ↦ omega (arith, many, same, heads_counted unknown known packets told)
+      | inr many ↦ many
     ]

@@ -12,7 +12,7 @@ use Rattle.thr_setup.specs.Setup.{setup_of}
 use Rattle.src_index.specs.declared.heads.Known.{Known}
 use Rattle.src_index.specs.declared.fault.Fault.{Fault}
 use Rattle.src_index.specs.declared.fault.Fault.TheVariants.{InPacket}
-use Rattle.src_index.specs.Track.{Track, headers, first_link}
+use Rattle.src_index.specs.Track.{headers, first_link}
 
 -- the most bytes of a packet
 abbrev pub most_bytes : ℕ
@@ -66,23 +66,23 @@ packet_step known packet =
     else if nat_lt known.packets headers then header_step known packet
     else frame_step known packet
 
--- a fault of the next packet
-abbrev pub next_fault : Known → PacketFault → Fault
-next_fault known fault = InPacket first_link known.packets fault
+-- a fault of the next packet, which shows on the page that begins at a byte
+abbrev pub next_fault : ℕ → Known → PacketFault → Fault
+next_fault at known fault = InPacket first_link known.packets at fault
 
--- all these packets more, or the first that has a fault
-unfoldable pub packets_over : Known → List (List ℕ) → Result Known Fault
-packets_over known [] = Ok known
-packets_over known (packet ∷ packets) = and_then (packet_step known packet) (λ next. packets_over next packets) (next_fault known)
+-- all these packets more, which end on a page, or the first that has a fault
+unfoldable pub packets_over : ℕ → Known → List (List ℕ) → Result Known Fault
+packets_over at known [] = Ok known
+packets_over at known (packet ∷ packets) = and_then (packet_step known packet) (λ next. packets_over at next packets) (next_fault at known)
 
 -- a packet that has not ended passes the limit as soon as the bytes that are there do
-abbrev pub unfinished_over : List ℕ → Known → Result Known Fault
-unfinished_over left known = if nat_lt most_bytes (length left) then Err (next_fault known TooLarge) else Ok known
+abbrev pub unfinished_over : ℕ → List ℕ → Known → Result Known Fault
+unfinished_over at left known = if nat_lt most_bytes (length left) then Err (next_fault at known TooLarge) else Ok known
 
 -- the packets that end on a page, and then the one that it leaves unfinished
-abbrev pub page_over : Known → List (List ℕ) → List ℕ → Result Known Fault
-page_over known ended left = packets_over known ended >>= unfinished_over left
+abbrev pub page_over : ℕ → Known → List (List ℕ) → List ℕ → Result Known Fault
+page_over at known ended left = packets_over at known ended >>= unfinished_over at left
 
 -- no packet of a track has a fault
-abbrev pub IsFaultless : Track → Type 0
-IsFaultless track = IsOk (packets_over unknown track.packets)
+abbrev pub AreFaultless : List (List ℕ) → Type 0
+AreFaultless packets = IsOk (packets_over 0 unknown packets)

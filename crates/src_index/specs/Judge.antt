@@ -14,16 +14,15 @@ use Rattle.src_index.specs.declared.fault.Fault.{Fault}
 use Rattle.src_index.specs.declared.fault.Fault.TheVariants.{InPage, InLink}
 use Rattle.src_index.specs.Heads.{unknown, page_over}
 
--- what the pages before a page leave: the walk, what the packets tell, the unfinished packet, and those that have ended
+-- what judging knows behind the pages before a page: the walk, what the packets tell, and the unfinished packet
 pub record Before : Type 0 where
   pub walk : State
   pub known : Known
   pub begun : List ℕ
-  pub packets : List (List ℕ)
 
 -- before the first page
 abbrev pub nothing : Before
-nothing = record { walk = start; known = unknown; begun = []; packets = [] }
+nothing = record { walk = start; known = unknown; begun = [] }
 
 -- the segments of a page, where it is of the track
 abbrev pub track_pieces : State → Page → List Piece
@@ -37,8 +36,8 @@ abbrev pub in_link : {A : Type 0} → ℕ → Result A LinkFault → Result A Fa
 in_link at read = and_then read Ok (InLink at)
 
 -- the packets that end with these pieces, in order, and then the one that stays unfinished
-abbrev pub pieces_over : Before → List Piece → Result Known Fault
-pieces_over before pieces = page_over before.known (packets_from before.begun pieces) (left_from before.begun pieces)
+abbrev pub pieces_over : Before → ℕ → List Piece → Result Known Fault
+pieces_over before at pieces = page_over at before.known (packets_from before.begun pieces) (left_from before.begun pieces)
 
 -- what is left behind a page
 abbrev pub with_pieces : Before → List Piece → Known → State → Before
@@ -46,14 +45,13 @@ with_pieces before pieces known walk = record {
   walk = walk;
   known = known;
   begun = left_from before.begun pieces;
-  packets = before.packets ++ packets_from before.begun pieces;
 }
 
 -- the checks of one page in order: its place in the link, its packets, its granule position
 unfoldable pub page_checks : Before → ℕ → Page → Result Before Fault
 page_checks before at page = do
   walk ← in_link at (step before.walk page)
-  known ← pieces_over before (track_pieces before.walk page)
+  known ← pieces_over before at (track_pieces before.walk page)
   walk ← in_link at (settled walk known.shift)
   Ok (with_pieces before (track_pieces before.walk page) known walk)
 
@@ -61,11 +59,19 @@ page_checks before at page = do
 abbrev pub Verdict : Type 0
 Verdict = Result (List (List ℕ)) Fault
 
--- the verdict behind the last page
-abbrev pub end_verdict : Before → ℕ → Verdict
-end_verdict before at = do
-  walk ← in_link at (ended before.walk)
-  Ok before.packets
+-- the packets that end on a page
+abbrev pub packets_on : Before → Page → List (List ℕ)
+packets_on before page = packets_from before.begun (track_pieces before.walk page)
+
+-- the check behind the last page
+abbrev pub end_check : Before → ℕ → Result State Fault
+end_check before at = in_link at (ended before.walk)
+
+-- the verdict there, of a track with these packets
+abbrev pub end_verdict : Before → List (List ℕ) → ℕ → Verdict
+end_verdict before packets at = do
+  walk ← end_check before at
+  Ok packets
 
 -- the checks of the page at the front: its own, and then those above
 abbrev pub front_checks : Before → ℕ → List ℕ → Result Before Fault
@@ -76,23 +82,24 @@ abbrev pub failing : Result Before Fault → Option Verdict
 failing (Ok next) = None
 failing (Err fault) = Some (Err fault)
 
--- the verdict that falls here, if one does: at the end, or at a page with a check that fails
-unfoldable pub verdict_here : Before → ℕ → List ℕ → Option Verdict
-verdict_here before at [] = Some (end_verdict before at)
-verdict_here before at (byte ∷ bytes) = failing (front_checks before at (byte ∷ bytes))
+-- the verdict that falls here, if one does: at the end, or at a page with a check that fails; so many packets came before
+unfoldable pub verdict_here : Before → List (List ℕ) → ℕ → List ℕ → Option Verdict
+verdict_here before packets at [] = Some (end_verdict before packets at)
+verdict_here before packets at (byte ∷ bytes) = failing (front_checks before at (byte ∷ bytes))
 
--- behind these pages, of which no check fails, this verdict falls
-unfoldable pub Judges : Before → ℕ → List ℕ → List Page → Verdict → Type 0
-Judges before at bytes [] verdict = verdict_here before at bytes ≡ Some verdict
-Judges before at bytes (page ∷ pages) verdict =
+-- behind these pages, of which no check fails, this verdict falls. The packets are gathered beside the judging, which keeps
+-- none of them
+unfoldable pub Judges : Before → List (List ℕ) → ℕ → List ℕ → List Page → Verdict → Type 0
+Judges before packets at bytes [] verdict = verdict_here before packets at bytes ≡ Some verdict
+Judges before packets at bytes (page ∷ pages) verdict =
     (page_at_front bytes ≡ Ok page) × (next : Before) × (page_checks before at page ≡ Ok next)
-    × Judges next (at + bytes_of_page page) (drop (bytes_of_page page) bytes) pages verdict
+    × Judges next (packets ++ packets_on before page) (at + bytes_of_page page) (drop (bytes_of_page page) bytes) pages verdict
 
 -- behind some pages this verdict falls
-pub record JudgedFrom (before : Before) (at : ℕ) (bytes : List ℕ) (verdict : Verdict) : Type 0 where
+pub record JudgedFrom (before : Before) (packets : List (List ℕ)) (at : ℕ) (bytes : List ℕ) (verdict : Verdict) : Type 0 where
   pub pages : List Page
-  pub judges : Judges before at bytes pages verdict
+  pub judges : Judges before packets at bytes pages verdict
 
 -- the verdict on a file; it has one alone
 unfoldable pub Judged : List ℕ → Verdict → Type 0
-Judged bytes verdict = JudgedFrom nothing 0 bytes verdict
+Judged bytes verdict = JudgedFrom nothing [] 0 bytes verdict

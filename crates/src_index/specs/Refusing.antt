@@ -1,6 +1,9 @@
 -- How a refusal stands to the checks that were made (private).
 use Rattle.std.specs.Prelude.{◌≡◌, ⊤, Result, Err}
 use Rattle.src_index.specs.declared.fault.Fault.{Fault}
+use Rattle.src_index.specs.declared.fault.Fault.TheVariants.{InPacket, InPage, InLink}
+use Rattle.src_index.specs.declared.fault.SourceFault.{SourceFault}
+use Rattle.src_index.specs.declared.fault.SourceFault.TheVariants.{Bad as BadPacket, Page, Link, ReadFault as ReadFailed, NoMem as NoMemory}
 use Rattle.src_index.specs.declared.fault.Refusal.{Refusal}
 use Rattle.src_index.specs.declared.fault.Refusal.TheVariants.{Bad, ReadFault, NoMem}
 
@@ -9,3 +12,11 @@ abbrev pub RefusesAs : {A : Type 0} → Refusal → Result A Fault → Type 0
 RefusesAs (Bad fault) checks = checks ≡ Err fault
 RefusesAs ReadFault checks = ⊥
 RefusesAs NoMem checks = ⊤
+
+-- what is told of a refusal
+abbrev pub source_fault : Refusal → SourceFault
+source_fault (Bad (InPacket link packet at fault)) = BadPacket link packet fault
+source_fault (Bad (InPage at fault)) = Page at fault
+source_fault (Bad (InLink at fault)) = Link at fault
+source_fault ReadFault = ReadFailed
+source_fault NoMem = NoMemory

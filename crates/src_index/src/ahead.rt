@@ -5,7 +5,7 @@ ghost use Rattle.vid_desk.specs.Meaning.{Rose, Told, with_reads};
 use std::alloc::{AllocError, Global};
 use vid_desk::{Desk, Failed};
 
-/// The bytes of the largest page, which are those of a piece.
+/// The bytes of the largest page, which are the most of a piece.
 const PIECE: usize = 65_307;
 
 /// The bytes of an input that were read and are not yet judged. They lie in `buf` from `first` to before `past`.
@@ -20,7 +20,7 @@ pub(crate) struct Ahead {
     pub(crate) past: usize,
     pub(crate) buf: Vec<u8>,
     ghost order: { first ≤ past },
-    ghost room: { vec_len buf ≡ 2 * 65307 },
+    ghost room: { vec_len buf ≡ 3 * 65307 },
     ghost within: { past ≤ vec_len buf },
     ghost in_file: { at + (past - first) ≤ size },
 }
@@ -33,7 +33,7 @@ fn zeros(alloc: Global, count: usize) -> Result<Vec<u8>, AllocError>
 }
 
 impl Ahead {
-    ghost use Rattle.src_index.specs.Ahead.{window_of, LiesIn, HasPage, StaysAt};
+    ghost use Rattle.src_index.specs.Ahead.{window_of, LiesIn, HasPages, HasMore, StaysAt};
 
     // Before the first piece.
     #[tactic(auto, using(crate::proofs::AheadLemmas::lies_at_start))]
@@ -47,7 +47,7 @@ impl Ahead {
             at: 0,
             first: 0,
             past: 0,
-            buf: zeros(alloc, 2 * PIECE)?,
+            buf: zeros(alloc, 3 * PIECE)?,
         })
     }
 
@@ -85,10 +85,10 @@ impl Ahead {
     fn read_piece<D: Desk>(&mut self, desk: &mut D) -> Result<(), Failed>
         requires id { self.old.id < (D.sees desk.old).found }
         requires lies { Told (D.sees desk.old) self.old.id (LiesIn self.old) }
-        requires place { (self.old.first ≡ 0) × (self.old.past < 65307) }
+        requires place { (self.old.first ≡ 0) × (self.old.past < 2 * 65307) }
         ensures stays { StaysAt self.old self.new }
         ensures lies { OnOk result (Told (D.sees desk.old) self.old.id (LiesIn self.new)) }
-        ensures page { OnOk result (HasPage self.new) }
+        ensures more { OnOk result (HasMore self.old self.new) }
         ensures kept { with_reads (D.sees desk.old) (D.sees desk.new) }
         ensures count { (D.sees desk.old).read_faults ≤ (D.sees desk.new).read_faults }
         ensures cause { OnErr result (Rose (D.sees desk.old).read_faults (D.sees desk.new).read_faults) }
@@ -104,23 +104,38 @@ impl Ahead {
         Ok(())
     }
 
-    // Reads a piece more where those that lie ahead may not hold a whole page. They are moved only then, so that a page
-    // costs no move.
-    pub(crate) fn fill<D: Desk>(&mut self, desk: &mut D) -> Result<(), Failed>
+    // Reads a piece more where those that lie ahead do not hold two of the largest pages. They are moved only then, so that a
+    // page costs no move.
+    fn read_more<D: Desk>(&mut self, desk: &mut D) -> Result<(), Failed>
         requires id { self.old.id < (D.sees desk.old).found }
         requires lies { Told (D.sees desk.old) self.old.id (LiesIn self.old) }
         ensures stays { StaysAt self.old self.new }
         ensures lies { OnOk result (Told (D.sees desk.old) self.old.id (LiesIn self.new)) }
-        ensures page { OnOk result (HasPage self.new) }
+        ensures more { OnOk result (HasMore self.old self.new) }
         ensures kept { with_reads (D.sees desk.old) (D.sees desk.new) }
         ensures count { (D.sees desk.old).read_faults ≤ (D.sees desk.new).read_faults }
         ensures cause { OnErr result (Rose (D.sees desk.old).read_faults (D.sees desk.new).read_faults) }
     {
         let count = self.past - self.first;
-        if count >= PIECE || self.at + count as u64 == self.size {
+        if count >= 2 * PIECE || self.at + count as u64 == self.size {
             return Ok(());
         }
         self.move_to_front();
         self.read_piece(desk)
+    }
+
+    // Reads on until the next page lies ahead, and behind each byte of it as much as the largest page takes.
+    pub(crate) fn fill<D: Desk>(&mut self, desk: &mut D) -> Result<(), Failed>
+        requires id { self.old.id < (D.sees desk.old).found }
+        requires lies { Told (D.sees desk.old) self.old.id (LiesIn self.old) }
+        ensures stays { StaysAt self.old self.new }
+        ensures lies { OnOk result (Told (D.sees desk.old) self.old.id (LiesIn self.new)) }
+        ensures pages { OnOk result (HasPages self.new) }
+        ensures kept { with_reads (D.sees desk.old) (D.sees desk.new) }
+        ensures count { (D.sees desk.old).read_faults ≤ (D.sees desk.new).read_faults }
+        ensures cause { OnErr result (Rose (D.sees desk.old).read_faults (D.sees desk.new).read_faults) }
+    {
+        self.read_more(desk)?;
+        self.read_more(desk)
     }
 }

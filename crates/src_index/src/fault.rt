@@ -1,6 +1,6 @@
 // Why a file gives no source (own).
 ghost use Rattle.std.specs.Prelude.{◌≡◌};
-ghost use Rattle.src_index.specs.Turns.{source_fault};
+ghost use Rattle.src_index.specs.Refusing.{source_fault};
 ghost use Rattle.src_index.specs.declared.fault.Refusal.TheVariants.{NoMem, ReadFault};
 
 use ogg_link::LinkFault;
@@ -12,10 +12,12 @@ use vid_desk::Failed;
 /// The first check of a file that fails.
 #[derive(Clone, Copy, Debug, PartialEq, Eq)]
 pub enum Fault {
-    /// A packet of the track of a link. Links count from 1, and the packets of a track from 0.
+    /// A packet of the track of a link, which shows on the page at a byte. Links count from 1, and the packets of a track
+    /// from 0.
     InPacket {
         link: u32,
         packet: u32,
+        at: u64,
         fault: PacketFault,
     },
     /// The page at a byte.
@@ -49,7 +51,7 @@ pub enum SourceFault {
         at: u64,
         fault: LinkFault,
     },
-    /// The file has so many bytes, which are more than 268,435,456.
+    /// The file has so many bytes, which are more than 2^40.
     TooLong {
         bytes: u64,
     },
@@ -103,6 +105,7 @@ impl From<Refusal> for SourceFault {
                     link,
                     packet,
                     fault,
+                    ..
                 },
             ) => SourceFault::Bad {
                 link,

@@ -1,20 +1,17 @@
 // What the packets of a track say one after the other (Theora I, 6 and 7.1).
 ghost use Rattle.std.specs.Prelude.{◌≡◌, ◌<◌, ◌≤◌, ◌^◌, IfOk, IfErr};
-ghost use Rattle.vid_base.specs.Reading.{Refuses};
 ghost use Rattle.ogg_page.specs.Granule.{is_key as is_key_packet};
-ghost use Rattle.src_index.specs.Heads.{is_data as is_data_packet, header_step, frame_step, packet_step, most_packets};
+ghost use Rattle.src_index.specs.Heads.{is_data as is_data_packet, frame_step, most_packets};
+ghost use Rattle.src_index.specs.Quantiser.{quantiser_behind as quantiser_of};
 ghost use Rattle.src_index.specs.Track.{headers};
 
-use std::alloc::Global;
-use thr_ident::{read_comment, read_ident};
-use thr_setup::read_setup;
-use vid_base::{PacketFault, Refusal};
+use vid_base::PacketFault;
 
 /// How many packets precede the frames.
 pub(crate) const HEADERS: u32 = 3;
 
 /// The most packets of a track: the headers and 2^24 frames (own).
-const MOST_PACKETS: u32 = HEADERS + (1 << 24);
+pub(crate) const MOST_PACKETS: u32 = HEADERS + (1 << 24);
 
 /// The most bytes of a packet (own).
 pub(crate) const MOST_BYTES: usize = 1 << 30;
@@ -40,6 +37,18 @@ pub(crate) fn is_key(packet: &[u8]) -> bool
     }
 }
 
+// The quantiser behind a frame: the first quantiser index of its head, or that before it where it has no byte.
+pub(crate) fn quantiser_behind(before: u8, packet: &[u8]) -> u8
+    requires { before < 64 }
+    ensures value { result ≡ quantiser_of before packet.now }
+    ensures bound { result < 64 }
+{
+    match packet.first() {
+        Some(byte) => *byte % 64,
+        None => before,
+    }
+}
+
 // Whether the first bit of a packet, where it has one, is that of a data packet.
 fn is_data(packet: &[u8]) -> bool
     ensures { result ≡ is_data_packet packet.now }
@@ -51,35 +60,9 @@ fn is_data(packet: &[u8]) -> bool
 }
 
 impl Known {
-    // A header more.
-    fn with_header(self, alloc: Global, packet: &[u8]) -> Result<Known, Refusal>
-        requires packets { self.packets < headers }
-        requires shift { self.shift < 2 ^ 5 }
-        ensures value { IfOk result (λ next. header_step self packet.now ≡ Ok next) }
-        ensures fault { IfErr result (λ refusal. Refuses refusal (header_step self packet.now)) }
-        ensures shift { IfOk result (λ next. next.shift < 2 ^ 5) }
-    {
-        let shift = match self.packets {
-            0 => read_ident(packet)?.shift,
-            1 => {
-                read_comment(packet)?;
-                self.shift
-            }
-            _ => {
-                read_setup(alloc, packet)?;
-                self.shift
-            }
-        };
-        Ok(Known {
-            packets: self.packets + 1,
-            shift,
-            ..self
-        })
-    }
-
     // A frame more.
     #[tactic(auto, unfolding(crate::specs::Heads::head_rules, vid_base::specs::Rules::first_fault))]
-    fn with_frame(self, packet: &[u8]) -> Result<Known, PacketFault>
+    pub(crate) fn with_frame(self, packet: &[u8]) -> Result<Known, PacketFault>
         requires shift { self.shift < 2 ^ 5 }
         requires packets { (headers ≤ self.packets) × (self.packets < most_packets) }
         ensures value { IfOk result (λ next. frame_step self packet.now ≡ Ok next) }
@@ -103,25 +86,5 @@ impl Known {
             last_key,
             ..self
         })
-    }
-
-    // A packet more.
-    #[tactic(auto, unfolding(crate::specs::Heads::packet_step))]
-    pub(crate) fn with_packet(self, alloc: Global, packet: &[u8]) -> Result<Known, Refusal>
-        requires shift { self.shift < 2 ^ 5 }
-        ensures value { IfOk result (λ next. packet_step self packet.now ≡ Ok next) }
-        ensures fault { IfErr result (λ refusal. Refuses refusal (packet_step self packet.now)) }
-        ensures shift { IfOk result (λ next. next.shift < 2 ^ 5) }
-    {
-        if packet.len() > MOST_BYTES || self.packets >= MOST_PACKETS {
-            return Err(Refusal::Bad(PacketFault::TooLarge));
-        }
-        if self.packets < HEADERS {
-            return self.with_header(alloc, packet);
-        }
-        match self.with_frame(packet) {
-            Ok(next) => Ok(next),
-            Err(fault) => Err(Refusal::Bad(fault)),
-        }
     }
 }

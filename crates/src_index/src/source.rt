@@ -1,48 +1,60 @@
 // A judged source.
-ghost use Rattle.std.specs.Prelude.{◌≡◌, ℕ, List, ◌+◌, ◌-◌, ◌^◌, ◌<◌, ◌≤◌, [], Ok, IfOk, IfErr, IsErrOf, length, map, get_or, vec_len};
-ghost use Rattle.std.specs.Coded.{codes};
-ghost use Rattle.thr_huff.specs.TreeCode.{forest_code};
+ghost use Rattle.std.specs.Prelude.{◌≡◌, ℕ, List, [], ◌∷◌, ◌^◌, ◌<◌, ◌≤◌, Ok, IfOk, IsOk, IsErrOf, length, vec_len};
 ghost use Rattle.vid_desk.specs.Meaning.{Rose, Told, with_reads};
-ghost use Rattle.ogg_page.specs.Granule.{is_key as is_key_packet};
 ghost use Rattle.thr_ident.specs.Ident.{ident_of, header_of};
 ghost use Rattle.thr_setup.specs.Setup.{setup_of, contents};
-ghost use Rattle.src_index.specs.Track.{Track, packet_at, frame_at, frame_count, link_count};
-ghost use Rattle.src_index.specs.Heads.{IsFaultless};
-ghost use Rattle.src_index.specs.Judging.{before_of, packets_of, GoesOn};
-ghost use Rattle.src_index.specs.Turns.{Runs, Finds};
-ghost use Rattle.src_index.specs.Loading.{Answers, IsLoadedFrom};
+ghost use Rattle.src_index.specs.Index.{Index, frame_count, key_at, quantiser_at, link_count};
+ghost use Rattle.src_index.specs.Holding.{kept_of, IsCounted};
+ghost use Rattle.src_index.specs.Judging.{GoesOn, Follows};
+ghost use Rattle.src_index.specs.Loading.{Answers, IsLoadedFrom, longest};
+ghost use Rattle.src_index.specs.Finding.{Finds};
 
 use crate::SourceFault;
-use crate::fault::Refusal;
-use crate::heads::{HEADERS, is_key};
+use crate::fault::{Fault, Refusal};
+use crate::headers::AllHeaders;
+use crate::heading::all_of;
 use crate::judge::Judging;
 use crate::load::judge_pages;
-use crate::packets::Packets;
+use crate::packets::{Frame, Packets};
+use crate::pages::Pages;
+use ogg_link::LinkFault;
 use std::alloc::Global;
 use std::marker::Model;
-use thr_ident::{Ident, read_ident};
-use thr_setup::{Setup, read_setup};
+use thr_ident::Ident;
+use thr_setup::Setup;
 use vid_desk::Desk;
 
 /// The most bytes of a file (own).
-const LONGEST: u64 = 268_435_456;
+const LONGEST: u64 = 1 << 40;
 
-/// A judged source: the track of an Ogg file in which no check failed.
+/// A judged source: the track of an Ogg file in which no check failed, as an index of the file.
 #[derive(Drop)]
 pub struct Source {
-    ident: Ident,
-    setup: Setup,
-    packets: Vec<Vec<u8>>,
-    ghost faultless: { IsFaultless (record { packets = map (λ packet. packet.items) packets.items }) },
-    ghost headers: { 3 ≤ vec_len packets },
-    ghost ident_told: { ident_of (get_or (map (λ packet. packet.items) packets.items) 0 []) ≡ Ok (header_of ident) },
-    ghost setup_told: { setup_of (get_or (map (λ packet. packet.items) packets.items) 2 []) ≡ Ok (contents setup) } by { Prim.hlevel (codes, forest_code) },
+    pub(crate) input: u32,
+    headers: AllHeaders,
+    pub(crate) pages: Pages,
+    pub(crate) frames: Vec<Frame>,
+    seekable: bool,
+    ghost few: { vec_len frames ≤ 2 ^ 24 },
 }
 
 impl Model for Source {
-    ghost Value = { Track };
+    ghost use Rattle.std.specs.Prelude.{map};
+    ghost use Rattle.src_index.specs.Index.{Index};
+    ghost use Rattle.src_index.specs.Pages.{marks_of};
+    ghost use Rattle.src_index.specs.Holding.{frame_of};
 
-    ghost view = { λ source. record { packets = map (λ packet. packet.items) source.packets.items } };
+    ghost Value = { Index };
+
+    ghost view = { λ source. record {
+      input = source.input;
+      ident = source.headers.ident.packet.items;
+      comment = source.headers.comment.items;
+      setup = source.headers.setup.packet.items;
+      pages = marks_of source.pages;
+      frames = map frame_of source.frames.items;
+      seekable = source.seekable;
+    } };
 }
 
 /// The bytes of the three header packets of a link.
@@ -53,37 +65,39 @@ pub struct Headers<'a> {
     pub setup: &'a [u8],
 }
 
-// The source of packets without a fault. Judging has looked at the headers; here they are read for what they say.
-fn source_of(alloc: Global, packets: Packets) -> Result<Source, Refusal>
-    requires headers { 3 ≤ vec_len packets.ended }
-    ensures packets { IfOk result (λ source. source.packets ≡ packets_of packets) }
-    ensures memory { IfErr result (λ refusal. refusal ≡ Refusal.NoMem) }
+// The source of what judging has kept of a file of so many bytes.
+fn source_of(input: u32, packets: Packets, seekable: bool, size: u64) -> Result<Source, Refusal>
+    requires counted { IsCounted packets }
+    requires three { 3 ≤ packets.known.packets }
+    ensures whole { IsOk result }
+    ensures headers { IfOk result (λ source. (kept_of packets).headers ≡ source.ident ∷ source.comment ∷ source.setup ∷ []) }
+    ensures kept { IfOk result (λ source. (source.input ≡ input) × (source.pages ≡ (kept_of packets).marks) × (source.frames ≡ (kept_of packets).frames) × (source.seekable ≡ seekable)) }
 {
-    let packets = packets.ended;
-    let ident = match read_ident(&packets[0]) {
-        Ok(ident) => ident,
-        Err(_) => unreachable!(),
-    };
-    let setup = match read_setup(alloc, &packets[2]) {
-        Ok(setup) => setup,
-        Err(vid_base::Refusal::Bad(_)) => unreachable!(),
-        Err(vid_base::Refusal::NoMem) => return Err(Refusal::NoMem),
+    let Some(headers) = all_of(packets.headers) else {
+        return Err(Refusal::Bad(Fault::InLink {
+            at: size,
+            fault: LinkFault::UnfinishedPacket,
+        }));
     };
     Ok(Source {
-        ident,
-        setup,
-        packets,
+        input,
+        headers,
+        pages: packets.pages,
+        frames: packets.frames,
+        seekable,
     })
 }
 
 // Judges the end of a file of so many bytes, behind all its pages.
-fn finish(alloc: Global, judging: Judging, size: u64) -> Result<Source, Refusal>
+fn finish(input: u32, judging: Judging, size: u64) -> Result<Source, Refusal>
     requires { GoesOn judging }
-    ensures finds { (bytes : List ℕ) → Runs (Ok tt) (before_of judging) size bytes → Finds result bytes }
+    ensures finds { (bytes : List ℕ) → size ≡ length bytes → Follows bytes judging size → Finds result bytes }
+    ensures input { IfOk result (λ source. source.input ≡ input) }
     ensures read { ¬ IsErrOf result Refusal.ReadFault }
 {
+    let seekable = !judging.has_false;
     match judging.end(size) {
-        Ok(packets) => source_of(alloc, packets),
+        Ok(packets) => source_of(input, packets, seekable, size),
         Err(refusal) => Err(refusal),
     }
 }
@@ -93,25 +107,26 @@ fn judge<D: Desk>(alloc: Global, desk: &mut D, id: u32, size: u64) -> Result<Sou
     requires id { id < (D.sees desk.old).found }
     requires size { Told (D.sees desk.old) id (λ bytes. size ≡ length bytes) }
     ensures judged { Told (D.sees desk.old) id (Finds result) }
+    ensures input { IfOk result (λ source. source.input ≡ id) }
     ensures kept { with_reads (D.sees desk.old) (D.sees desk.new) }
     ensures count { (D.sees desk.old).read_faults ≤ (D.sees desk.new).read_faults }
     ensures cause { IsErrOf result Refusal.ReadFault → Rose (D.sees desk.old).read_faults (D.sees desk.new).read_faults }
 {
     let mut judging = Judging::new(alloc);
     judge_pages(alloc, desk, id, size, &mut judging)?;
-    finish(alloc, judging, size)
+    finish(id, judging, size)
 }
 
 impl Source {
     /// Judges a whole file: its pages from byte 0 on, each with its own faults, its place in the link, the packets of the
     /// track that end on it, and its granule position; and then the end. The first check that fails is the answer, and a
     /// packet's limit comes before its other faults. Of a frame only the first two bits are looked at. A file of more than
-    /// 268,435,456 bytes is `TooLong`, before any of it is read. `Changed` is never answered.
+    /// 2^40 bytes is `TooLong`, before any of it is read. The file is read once, in pieces of at most 65,307 bytes, and none
+    /// of them is kept. `Changed` is never answered.
     pub fn load<D: Desk>(alloc: Global, desk: &mut D, id: u32) -> Result<Source, SourceFault>
         requires id { id < (D.sees desk.old).found }
-        ensures judged { Told (D.sees desk.old) id (λ bytes. Answers result bytes) }
+        ensures judged { Told (D.sees desk.old) id (λ bytes. Answers longest result bytes) }
         ensures loaded { IfOk result (λ source. IsLoadedFrom (D.sees desk.old) id source) }
-        ensures faultless { IfOk result IsFaultless }
         ensures kept { with_reads (D.sees desk.old) (D.sees desk.new) }
         ensures count { (D.sees desk.old).read_faults ≤ (D.sees desk.new).read_faults }
         ensures cause { IsErrOf result SourceFault.ReadFault → Rose (D.sees desk.old).read_faults (D.sees desk.new).read_faults }
@@ -133,17 +148,31 @@ impl Source {
     pub fn frames(&self) -> u32
         ensures value { result ≡ frame_count self.now }
         ensures most { result ≤ 2 ^ 24 }
-        ensures headers { 3 ≤ length self.now.packets }
     {
-        self.packets.len() as u32 - HEADERS
+        self.frames.len() as u32
     }
 
     /// Whether frame n is a key frame: its packet has a byte, of which the first two bits are 0.
     pub fn is_key(&self, n: u32) -> bool
         requires { n < frame_count self.now }
-        ensures { result ≡ is_key_packet (frame_at self.now n) }
+        ensures { result ≡ key_at self.now n }
     {
-        is_key(&self.packets[n as usize + HEADERS as usize])
+        self.frames[n as usize].key
+    }
+
+    /// The first quantiser index of the latest packet with bytes at or before frame n (Theora I, 7.1).
+    pub fn quantiser(&self, n: u32) -> u8
+        requires { n < frame_count self.now }
+        ensures { result ≡ quantiser_at self.now n }
+    {
+        self.frames[n as usize].quantiser
+    }
+
+    /// Whether no whole page with a right checksum stands at a place where no page of the file begins.
+    pub fn seekable(&self) -> bool
+        ensures { result ≡ self.now.seekable }
+    {
+        self.seekable
     }
 
     /// The link that frame n stands in.
@@ -164,30 +193,30 @@ impl Source {
     /// What the identification header of a link says.
     pub fn ident(&self, link: u32) -> &Ident
         requires { (1 ≤ link) × (link ≤ link_count self.now) }
-        ensures { ident_of (packet_at self.now 0) ≡ Ok (header_of result.now) }
+        ensures { ident_of self.now.ident ≡ Ok (header_of result.now) }
     {
-        &self.ident
+        &self.headers.ident.header
     }
 
     /// What the setup header of a link says.
     pub fn setup(&self, link: u32) -> &Setup
         requires { (1 ≤ link) × (link ≤ link_count self.now) }
-        ensures { setup_of (packet_at self.now 2) ≡ Ok (contents result.now) }
+        ensures { setup_of self.now.setup ≡ Ok (contents result.now) }
     {
-        &self.setup
+        &self.headers.setup.header
     }
 
     /// The header packets of a link, as they stand in the file.
     pub fn headers(&self, link: u32) -> Headers<'_>
         requires { (1 ≤ link) × (link ≤ link_count self.now) }
-        ensures ident { result.ident.now ≡ packet_at self.now 0 }
-        ensures comment { result.comment.now ≡ packet_at self.now 1 }
-        ensures setup { result.setup.now ≡ packet_at self.now 2 }
+        ensures ident { result.ident.now ≡ self.now.ident }
+        ensures comment { result.comment.now ≡ self.now.comment }
+        ensures setup { result.setup.now ≡ self.now.setup }
     {
         Headers {
-            ident: &self.packets[0],
-            comment: &self.packets[1],
-            setup: &self.packets[2],
+            ident: &self.headers.ident.packet,
+            comment: &self.headers.comment,
+            setup: &self.headers.setup.packet,
         }
     }
 }

@@ -8,6 +8,8 @@ use std::process::Abort;
 use thr_setup::{import_setup, write_setup};
 use vid_desk::{Desk, MemDesk};
 
+mod again;
+mod pieces;
 mod refusals;
 
 // An identification header of 16 by 16 samples, 4:2:0, 25 frames a second, shift 6.
@@ -188,6 +190,7 @@ fn packets_are_joined_over_pages_of_other_streams(rt: HostRuntime) {
     };
     assert!(rt; source.frames() == 2 && source.is_key(0) && !source.is_key(1));
     assert!(rt; source.headers(1).setup == setup.as_slice());
+    assert!(rt; source.seekable());
 }
 
 #[test]

@@ -239,7 +239,7 @@ impl Desk for LongInput {
 
 #[test]
 fn a_file_that_is_too_long_is_refused_unread(rt: HostRuntime) {
-    const LONGEST: u64 = 268_435_456;
+    const LONGEST: u64 = 1 << 40;
     for (size, fault, asked) in [
         (LONGEST + 1, SourceFault::TooLong { bytes: LONGEST + 1 }, 0),
         (LONGEST, SourceFault::ReadFault, 65_307),

@@ -1,17 +1,16 @@
-use Rattle.std.proofs.Common.{◌≡◌, ◌-◌, ◌≤◌, drop}
+use Rattle.std.proofs.Common.{◌≡◌, ◌-◌, ◌≤◌}
 use Rattle.vid_desk.specs.Meaning.{Told, with_reads}
 use Rattle.src_index.specs.Ahead.{LiesIn}
-use Rattle.src_index.specs.Judge.{JudgedFrom, Judged, Verdict}
-use Rattle.src_index.specs.Judging.{before_of, GoesOn}
+use Rattle.src_index.specs.Judging.{GoesOn, Follows}
 use Rattle.src_index.proofs.load.judge_pages.Given as goal
 
--- what falls from here on falls on the file
+-- the pages so far were judged
 abbrev pub invariant-pages : goal.invariant-pages
 invariant-pages g l = record {
   id : l.ahead.id ≡ l.id;
   size : l.ahead.size ≡ l.size;
   lies : Told (g.D.Desk.sees l.fn.desk) l.id (LiesIn l.ahead);
-  judged : Told (g.D.Desk.sees l.fn.desk) l.id (λ bytes. (verdict : Verdict) → JudgedFrom (before_of l.judging) l.ahead.at (drop l.ahead.at bytes) verdict → Judged bytes verdict);
+  judged : Told (g.D.Desk.sees l.fn.desk) l.id (λ bytes. Follows bytes l.judging l.ahead.at);
   goes_on : GoesOn l.judging;
   kept : with_reads (g.D.Desk.sees l.fn.desk) (g.D.Desk.sees l.desk);
   later : (g.D.Desk.sees l.fn.desk).read_faults ≤ (g.D.Desk.sees l.desk).read_faults;

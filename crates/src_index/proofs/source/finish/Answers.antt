@@ -1,10 +1,15 @@
-use Rattle.src_index.specs.Judging.{before_of, packets_of}
-use Rattle.src_index.proofs.TurnLemmas.{ends_well, ends_badly}
+use Rattle.std.proofs.Common.{◌≡◌, ◌∷◌, [], not, ap, sym, ◌∙◌}
+use Rattle.src_index.specs.declared.packets.Packets.{Packets}
+use Rattle.src_index.specs.Index.{Index}
+use Rattle.src_index.specs.Judge.{end_check}
+use Rattle.src_index.specs.Judging.{before_of}
+use Rattle.src_index.specs.Holding.{kept_of}
+use Rattle.src_index.proofs.TurnLemmas.{ends_badly_as, found_as}
 use Rattle.src_index.proofs.source.finish.Goals as goal
 
-pub returns-in-Ok-clause-finds : goal.returns-in-Ok-clause-finds
-returns-in-Ok-clause-finds c = λ bytes runs.
-    ends_well c.source_of.result (packets_of c.in-Ok.packets) (before_of c.args.judging) c.args.size bytes runs c.in-Ok.ensures.verdict c.source_of.ensures.packets c.source_of.ensures.memory
-
 pub returns-in-Err-clause-finds : goal.returns-in-Err-clause-finds
-returns-in-Err-clause-finds c = λ bytes runs. ends_badly c.in-Err.refusal (before_of c.args.judging) c.args.size bytes runs c.in-Err.ensures.fault
+returns-in-Err-clause-finds c = λ bytes whole f. ends_badly_as c.args.judging bytes c.args.size c.in-Err.refusal whole c.in-Err.ensures.fault f
+
+pub returns-in-Ok-clause-finds : goal.returns-in-Ok-clause-finds
+returns-in-Ok-clause-finds c = λ bytes whole f.
+    found_as c.args.judging c.in-Ok.packets c.source_of.result bytes c.args.size c.args.input whole c.in-Ok.ensures.packets c.in-Ok.ensures.ended.0 c.source_of.ensures.whole c.source_of.ensures.headers c.source_of.ensures.kept f

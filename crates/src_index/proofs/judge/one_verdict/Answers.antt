@@ -1,5 +1,0 @@
-use Rattle.src_index.proofs.VerdictLemmas.{one_verdict}
-use Rattle.src_index.proofs.judge.one_verdict.Goals as goal
-
-pub returns : goal.returns
-returns c = one_verdict

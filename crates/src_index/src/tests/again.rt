@@ -1,0 +1,206 @@
+// Packets that are read again, and what an index tells of frames.
+ghost use Rattle.std.specs.Prelude.{◌≡◌, ◌<◌};
+ghost use Rattle.vid_desk.specs.Counts.{untold};
+
+use super::{COMMENT, Frame, IDENT, KEY, add_page, file_of, key_frame, setup_packet};
+use crate::{Source, SourceFault, same_page};
+use ogg_page::PageHead;
+use std::alloc::Global;
+use std::process::Abort;
+use vid_desk::{Desk, DeskFault, Failed, MemDesk};
+
+// The packet of a frame, of a source that is loaded from an input.
+fn gathered<D: Desk>(
+    rt: &impl Abort,
+    alloc: Global,
+    desk: &mut D,
+    id: u32,
+    n: u32,
+) -> Result<Vec<u8>, SourceFault>
+    requires { id < (D.sees desk.old).found }
+{
+    let source = match Source::load(alloc, desk, id) {
+        Ok(source) => source,
+        Err(fault) => return Err(fault),
+    };
+    assert!(rt; n < source.frames());
+    let mut into = Vec::new(alloc);
+    match source.packet(desk, n, &mut into) {
+        Ok(()) => Ok(into),
+        Err(fault) => Err(fault),
+    }
+}
+
+// The same of a file in memory.
+pub(super) fn packet_of(
+    rt: &impl Abort,
+    alloc: Global,
+    bytes: &[u8],
+    n: u32,
+) -> Result<Vec<u8>, SourceFault> {
+    let mut desk = MemDesk::new(alloc);
+    assert!(rt; desk.add_input("S", bytes).is_ok());
+    let Ok(Some(id)) = desk.find("S") else {
+        panic!(rt; "there is no input")
+    };
+    gathered(rt, alloc, &mut desk, id, n)
+}
+
+#[test]
+fn packets_are_gathered_from_their_pages(rt: HostRuntime) {
+    let alloc = rt.alloc();
+    let setup = setup_packet(&rt, alloc);
+    let frame = key_frame(&rt, alloc, 600);
+    let mut bytes = file_of(&rt, alloc, &IDENT, COMMENT, &setup, &[(64, KEY)]);
+    // A packet of three pages, between which a page of another stream stands, and two empty ones behind it.
+    let part = frame.split_at(255).0;
+    let pages: [(u8, u64, u32, u32, &[u8], &[u8]); 4] = [
+        (0, u64::MAX, 1, 3, &[255], part),
+        (0, 0, 2, 0, &[5], b"other"),
+        (1, u64::MAX, 1, 4, &[255], part),
+        (5, 130, 1, 5, &[90, 0, 0], frame.split_at(90).0),
+    ];
+    for (flags, granule, serial, number, lacing, body) in pages {
+        let head = PageHead {
+            flags,
+            granule,
+            serial,
+            number,
+        };
+        add_page(&rt, &mut bytes, &head, lacing, body);
+    }
+    let rows: [(u32, &[u8]); 4] = [(0, KEY), (1, &frame), (2, &[]), (3, &[])];
+    for (n, want) in rows {
+        let Ok(packet) = packet_of(&rt, alloc, &bytes, n) else {
+            panic!(&rt; "there is no packet")
+        };
+        assert!(rt; packet.as_slice() == want, "{n}");
+    }
+}
+
+#[test]
+fn quantisers_are_those_of_the_latest_packets_with_bytes(rt: HostRuntime) {
+    let alloc = rt.alloc();
+    let setup = setup_packet(&rt, alloc);
+    let frames: [Frame; 4] = [(64, KEY), (65, &[]), (66, &[0x7f]), (67, &[])];
+    let bytes = file_of(&rt, alloc, &IDENT, COMMENT, &setup, &frames);
+    let Ok(source) = super::loaded(&rt, alloc, &bytes, None) else {
+        panic!(&rt; "the file is not loaded")
+    };
+    assert!(rt; source.seekable());
+    for (n, want) in [(0, 30), (1, 30), (2, 63), (3, 63)] {
+        assert!(rt; n < source.frames());
+        assert_eq!(rt; source.quantiser(n), want, "{n}");
+    }
+}
+
+#[test]
+fn a_page_is_the_same_by_its_checksum_and_its_lacing_values(rt: HostRuntime) {
+    let mut page = Vec::new(rt.alloc());
+    let head = PageHead {
+        flags: 0,
+        granule: 0,
+        serial: 1,
+        number: 0,
+    };
+    add_page(&rt, &mut page, &head, &[1, 1], b"ab");
+    assert!(rt; page.len() == 31);
+    let (cut, _) = page.split_at(30);
+    let checksum = u32::from_le_bytes([page[22], page[23], page[24], page[25]]);
+    assert!(rt; same_page(&page, checksum, &[1, 1]));
+    assert!(rt; !same_page(&page, checksum ^ 1, &[1, 1]));
+    assert!(rt; !same_page(&page, checksum, &[2]));
+    assert!(rt; !same_page(cut, checksum, &[1, 1]));
+    page[30] ^= 1;
+    assert!(rt; !same_page(&page, checksum, &[1, 1]));
+}
+
+// A desk with one input, of which nothing is told. From its second read on it gives one other byte.
+#[derive(Drop)]
+struct Changing {
+    bytes: Vec<u8>,
+    other: u64,
+    reads: u64,
+    read_faults: u64,
+    write_faults: u64,
+    asked: u64,
+}
+
+impl Desk for Changing {
+    ghost sees = { λ desk. untold (record {
+      read_faults = desk.read_faults;
+      write_faults = desk.write_faults;
+      asked = desk.asked;
+      found = 1;
+      made = 1;
+    }) };
+
+    ghost use Rattle.std.proofs.Common.{rules};
+
+    ghost found_in = { λ desk files told. Prim.search rules };
+
+    ghost made_in = { λ desk files told. Prim.search rules };
+
+    fn find(&mut self, _name: &str) -> Result<Option<u32>, DeskFault> {
+        Ok(Some(0))
+    }
+
+    fn size(&mut self, _id: u32) -> Result<u64, Failed> {
+        Ok(self.bytes.len() as u64)
+    }
+
+    fn read_at(&mut self, _id: u32, pos: u64, buf: &mut [u8]) -> Result<(), Failed> {
+        self.asked = self.asked.saturating_add(buf.len() as u64);
+        let size = self.bytes.len() as u64;
+        if pos > size || buf.len() as u64 > size - pos {
+            self.read_faults = self.read_faults.saturating_add(1);
+            return Err(Failed);
+        }
+        let first = pos as usize;
+        buf.copy_from_slice(&self.bytes[first..first + buf.len()]);
+        self.reads = self.reads.saturating_add(1);
+        if self.reads > 1 && self.other >= pos && self.other - pos < buf.len() as u64 {
+            buf[(self.other - pos) as usize] ^= 1;
+        }
+        Ok(())
+    }
+
+    fn create(&mut self, _name: &str) -> Result<u32, DeskFault> {
+        self.write_faults = self.write_faults.saturating_add(1);
+        Err(DeskFault::Failed)
+    }
+
+    fn append(&mut self, _id: u32, _piece: &[u8]) -> Result<(), DeskFault> {
+        Err(DeskFault::NoMem)
+    }
+
+    fn say(&mut self, _piece: &[u8]) -> Result<(), DeskFault> {
+        Err(DeskFault::NoMem)
+    }
+}
+
+#[test]
+fn a_page_that_changes_between_two_readings_is_told(rt: HostRuntime) {
+    let alloc = rt.alloc();
+    let setup = setup_packet(&rt, alloc);
+    // The frame's page is bytes 2,619 to 2,651.
+    for (other, want) in [
+        (2_618, None),
+        (2_619, Some(SourceFault::Changed)),
+        (2_651, Some(SourceFault::Changed)),
+    ] {
+        let mut desk = Changing {
+            bytes: file_of(&rt, alloc, &IDENT, COMMENT, &setup, &[(64, KEY)]),
+            other,
+            reads: 0,
+            read_faults: 0,
+            write_faults: 0,
+            asked: 0,
+        };
+        assert_eq!(rt;
+            gathered(&rt, alloc, &mut desk, 0, 0).err(),
+            want,
+            "{other}"
+        );
+    }
+}
