@@ -399,7 +399,11 @@ impl Desk for LongInput {
 #[test]
 fn a_file_of_more_than_1099511627776_bytes_is_too_long(rt: HostRuntime) {
     for (size, status, line) in [
-        (1_099_511_627_777, 14, "fault 14 input 1 bytes 1099511627777\n"),
+        (
+            1_099_511_627_777,
+            14,
+            "fault 14 input 1 bytes 1099511627777\n",
+        ),
         (1_099_511_627_776, 8, "fault 8 read\n"),
     ] {
         let mut desk = LongInput {

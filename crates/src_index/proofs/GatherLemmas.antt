@@ -1,6 +1,6 @@
 -- Packets at their places stay there when pages come behind, and what is kept of one more segment or page is so. Loading cites
 -- these.
-use Rattle.std.proofs.Common.{◌≡◌, ℕ, zero, suc, get_or, ◌+◌, ◌-◌, ◌<◌, ◌≤◌, ◌==◌, Bool, true, false, ◌&&◌, List, [], ◌∷◌, ◌++◌, length, length-append, length-drop, length-take, take, drop, sum, All, Option, Some, None, nat_lt, if◌then◌else◌, refl, ap, sym, subst, ◌∙◌, arith, inl, inr, append_assoc, lt-ltb, ne_eqb, eq-eqb}
+use Rattle.std.proofs.Common.{◌≡◌, ℕ, zero, suc, get_or, ◌+◌, ◌-◌, ◌<◌, ◌≤◌, ◌==◌, Bool, true, false, ◌&&◌, List, [], ◌∷◌, ◌++◌, length, length-append, length-drop, length-take, take, drop, sum, All, Some, nat_lt, if◌then◌else◌, refl, ap, sym, subst, ◌∙◌, arith, inl, inr, append_assoc, lt-ltb, ne_eqb, eq-eqb}
 use Rattle.std.specs.Str.{bytes_eq}
 use Rattle.std.proofs.lemmas.Bool.{cases_lt, le-ltb}
 use Rattle.std.proofs.lemmas.List.{append-nil, drop-drop, drop-append-le, take-append-le, drop_all, drop_more, drop-take, take-take, take-append-drop, get_or-take, take_all, nil_from_length}
@@ -10,8 +10,7 @@ use Rattle.std.proofs.Math.Seq.{drop-append_seam, take-append_seam}
 use Rattle.byteorder.specs.Endian.{little_number}
 use Rattle.ogg_page.specs.Page.{Page, page_at_front, number_at, lacing_of, size_of}
 use Rattle.ogg_page.proofs.PageLemmas.{page_is, bytes_of_page-is, front_whole}
-use Rattle.ogg_page.specs.Packets.{Piece, segments, packets_from, left_from}
-use Rattle.ogg_page.specs.Granule.{is_key}
+use Rattle.ogg_page.specs.Packets.{Piece, segments, packets_from}
 use Rattle.src_index.specs.Index.{PageMark, Place, Frame}
 use Rattle.src_index.specs.Track.{headers}
 use Rattle.src_index.specs.Heads.{most_bytes}

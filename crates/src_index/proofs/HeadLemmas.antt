@@ -1,9 +1,8 @@
 -- Packets one after the other: those behind others, how many they are, and what three headers say. Judging and the calls of a
 -- source cite these.
-use Rattle.std.proofs.Common.{◌≡◌, ℕ, ◌+◌, ◌≤◌, ◌<◌, ◌||◌, Bool, true, false, List, [], ◌∷◌, ◌++◌, length, Some, None, Result, Ok, Err, IsOk, is_ok, ◌==◌, nat_le, nat_lt, if◌then◌else◌, get_or, inl, inr, true≢false, refl, ap, sym, ◌∙◌, arith, All, lt-ltb}
+use Rattle.std.proofs.Common.{◌≡◌, ℕ, ◌+◌, ◌≤◌, ◌<◌, ◌||◌, Bool, true, false, List, [], ◌∷◌, length, Some, None, Result, Ok, Err, ◌==◌, nat_le, nat_lt, if◌then◌else◌, inl, inr, true≢false, refl, ap, sym, ◌∙◌, arith, All, lt-ltb}
 use Rattle.std.proofs.lemmas.Bool.{cases_lt, le-leb}
 use Rattle.std.proofs.lemmas.List.Elements.{All-nil, All-cons}
-use Rattle.vid_base.specs.declared.fault.PacketFault.{PacketFault}
 use Rattle.vid_base.specs.declared.fault.PacketFault.TheVariants.{TooLarge}
 use Rattle.vid_base.specs.Reading.{◌>>=◌, and_then}
 use Rattle.thr_ident.specs.Ident.{ident_of}
@@ -11,9 +10,8 @@ use Rattle.thr_ident.specs.Comment.{comment_of}
 use Rattle.vid_base.specs.Rules.{first_fault, unless}
 use Rattle.thr_setup.specs.Setup.{setup_of}
 use Rattle.src_index.specs.declared.heads.Known.{Known}
-use Rattle.src_index.specs.declared.fault.Fault.{Fault}
 use Rattle.src_index.specs.Track.{headers}
-use Rattle.src_index.specs.Heads.{packet_step, packets_over, page_over, unfinished_over, next_fault, unknown, header_step, frame_step, head_rules, key_at, is_too_large, most_packets, most_bytes}
+use Rattle.src_index.specs.Heads.{packet_step, packets_over, page_over, unfinished_over, next_fault, header_step, frame_step, head_rules, key_at, is_too_large, most_packets, most_bytes}
 
 -- what was read before a reading that went well
 pub bind_ok : {A B F : Type 0} (read : Result A F) (next : A → Result B F) (value : B) → read >>= next ≡ Ok value → (first : A) × (read ≡ Ok first) × (next first ≡ Ok value)

@@ -1,7 +1,7 @@
 -- A page begins with its first letter, so a place without it begins none. The search for false pages cites these.
-use Rattle.std.proofs.Common.{◌≡◌, ℕ, ◌+◌, ◌-◌, ◌*◌, ◌<◌, ◌≤◌, List, ◌++◌, length, length-drop, length-append, length-take, take, drop, get_or, Result, Ok, Err, IsOk, inl, inr, refl, ap, sym, ◌∙◌, arith, lit<}
+use Rattle.std.proofs.Common.{◌≡◌, ℕ, ◌-◌, ◌<◌, ◌≤◌, List, length, length-drop, length-take, take, drop, get_or, Result, Ok, Err, IsOk, inl, inr, refl, ap, sym, ◌∙◌, arith, lit<}
 use Rattle.std.proofs.lemmas.List.{get_or-take, get_or-drop, get_or_append_left, drop-append-le}
-use Rattle.ogg_page.specs.Page.{page_at_front, Opens, capture, largest_page}
+use Rattle.ogg_page.specs.Page.{page_at_front, Opens, capture}
 use Rattle.ogg_page.proofs.PageLemmas.{page_begins}
 use Rattle.src_index.specs.Windows.{OpensTwo}
 

@@ -1,6 +1,6 @@
 -- A source stays loaded over reads. Those who read its packets cite this.
-use Rattle.std.proofs.Common.{◌≡◌, ℕ, Some, ap, sym, subst, refl, ◌∙◌}
-use Rattle.vid_desk.specs.Meaning.{Meaning, Told, bytes_at, with_reads}
+use Rattle.std.proofs.Common.{ℕ, ap, sym, subst, refl, ◌∙◌}
+use Rattle.vid_desk.specs.Meaning.{Meaning, bytes_at, with_reads}
 use Rattle.src_index.specs.Index.{Index}
 use Rattle.src_index.specs.Loading.{IsIndexed, IsLoadedFrom}
 

@@ -1,16 +1,16 @@
 -- Where a verdict falls: at a page, behind it, or at the end; and what judging has kept there. Judging page after page cites
 -- these.
-use Rattle.std.proofs.Common.{◌≡◌, ℕ, ◌+◌, ◌-◌, ◌<◌, ◌≤◌, Bool, true, false, not, List, [], ◌∷◌, ◌++◌, length, length-append, length-take, length-drop, take, drop, sum, All, get_or, Some, Result, Ok, Err, IsOk, is_ok, IfOk, refl, ap, sym, subst, ◌∙◌, arith, lit<, if◌then◌else◌, true≢false}
+use Rattle.std.proofs.Common.{◌≡◌, ℕ, ◌+◌, ◌<◌, ◌≤◌, Bool, true, false, not, List, [], ◌∷◌, ◌++◌, length, length-append, length-take, length-drop, take, drop, sum, All, get_or, Some, Result, Ok, Err, IsOk, IfOk, refl, ap, sym, subst, ◌∙◌, arith, lit<, true≢false}
 use Rattle.std.proofs.lemmas.List.{drop-drop, drop-append-le, take-append-le, append-nil, get_or-take}
 use Rattle.std.proofs.Math.Seq.{drop-length}
 use Rattle.vid_base.specs.Reading.{◌>>=◌}
 use Rattle.byteorder.specs.Endian.{little_number}
 use Rattle.ogg_page.specs.declared.fault.PageFault.{PageFault}
-use Rattle.ogg_page.specs.Page.{Page, page_at_front, bytes_of_page, number_at, lacing_of, body_of, fields_of}
-use Rattle.ogg_page.specs.Packets.{Piece, segments, packets_from}
+use Rattle.ogg_page.specs.Page.{Page, page_at_front, bytes_of_page, number_at, lacing_of, body_of}
+use Rattle.ogg_page.specs.Packets.{segments, packets_from}
 use Rattle.ogg_page.proofs.PageLemmas.{page_is}
 use Rattle.ogg_link.specs.declared.state.State.{State}
-use Rattle.ogg_link.specs.Walk.{is_of_track, ended}
+use Rattle.ogg_link.specs.Walk.{is_of_track}
 use Rattle.ogg_link.specs.Parts.{lacing_if}
 use Rattle.src_index.specs.declared.fault.Fault.{Fault}
 use Rattle.src_index.specs.declared.fault.Fault.TheVariants.{InPacket, InPage, InLink}
@@ -18,10 +18,9 @@ use Rattle.src_index.specs.declared.fault.Refusal.{Refusal}
 use Rattle.src_index.specs.declared.fault.Refusal.TheVariants.{Bad, ReadFault, NoMem}
 use Rattle.src_index.specs.declared.judge.Judging.{Judging}
 use Rattle.src_index.specs.Index.{PageMark, Index}
-use Rattle.src_index.specs.Track.{headers, packet_at}
 use Rattle.src_index.specs.Heads.{most_bytes}
-use Rattle.src_index.specs.Judge.{Before, nothing, Judges, JudgedFrom, Judged, Verdict, page_checks, front_checks, in_page, in_link, end_check, end_verdict, verdict_here, failing, packets_on, track_pieces}
-use Rattle.src_index.specs.Gather.{IsMarkOf, IsIndexOf, AreFramesOf, segments_at, segments_along}
+use Rattle.src_index.specs.Judge.{Before, nothing, Judges, JudgedFrom, Judged, Verdict, page_checks, front_checks, in_page, end_check, end_verdict, verdict_here, failing, packets_on}
+use Rattle.src_index.specs.Gather.{IsMarkOf, AreFramesOf, segments_at, segments_along}
 use Rattle.src_index.specs.Quantiser.{last_quantiser}
 use Rattle.std.proofs.lemmas.List.Elements.{All-nil}
 use Rattle.src_index.specs.Kept.{Kept, page_kept, with_page}

@@ -1,5 +1,5 @@
 -- What the packets so far keep, as lists (private).
-use Rattle.std.specs.Prelude.{◌≡◌, ◌+◌, ◌<◌, List, map, length, vec_len}
+use Rattle.std.specs.Prelude.{◌≡◌, ◌+◌, ◌<◌, map, length, vec_len}
 use Rattle.src_index.specs.declared.packets.Packets.{Packets}
 use Rattle.src_index.specs.declared.packets.Place.{Place}
 use Rattle.src_index.specs.declared.packets.Frame.{Frame}

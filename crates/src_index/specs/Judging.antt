@@ -1,5 +1,5 @@
 -- A judging in progress, and how it stands to the bytes of a file (private).
-use Rattle.std.specs.Prelude.{◌≡◌, ⊤, ℕ, ◌<◌, ◌≤◌, true, false, List, [], drop, None, Result, Ok, Err}
+use Rattle.std.specs.Prelude.{◌≡◌, ⊤, ℕ, ◌<◌, true, false, List, [], drop, None, Result, Ok, Err}
 use Rattle.src_index.specs.declared.judge.Judging.{Judging}
 use Rattle.src_index.specs.declared.fault.Refusal.{Refusal}
 use Rattle.src_index.specs.declared.fault.Refusal.TheVariants.{Bad, ReadFault, NoMem}

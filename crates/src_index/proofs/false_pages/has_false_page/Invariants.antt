@@ -1,4 +1,4 @@
-use Rattle.std.proofs.Common.{◌≡◌, ℕ, ◌<◌, ◌≤◌, ◌-◌, List, drop, IsOk}
+use Rattle.std.proofs.Common.{ℕ, ◌<◌, ◌≤◌, ◌-◌, List, drop, IsOk}
 use Rattle.ogg_page.specs.Page.{page_at_front}
 use Rattle.src_index.specs.Windows.{OpensTwo}
 use Rattle.src_index.proofs.false_pages.has_false_page.Given as goal

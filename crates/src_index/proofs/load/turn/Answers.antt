@@ -1,4 +1,4 @@
-use Rattle.std.proofs.Common.{◌≡◌, ◌+◌, drop, sym, subst}
+use Rattle.std.proofs.Common.{drop, sym, subst}
 use Rattle.vid_desk.specs.Meaning.{bytes_at}
 use Rattle.src_index.specs.Windows.{OpensTwo}
 use Rattle.src_index.specs.Judging.{Follows}

@@ -1,5 +1,4 @@
-use Rattle.std.proofs.Common.{◌≡◌, ◌+◌, ◌∙◌, ◌<◌, ◌≤◌, ◌++◌, length, get_or, drop, take, Err, ap, sym, arith}
-use Rattle.src_index.specs.declared.fault.SourceFault.{SourceFault}
+use Rattle.std.proofs.Common.{◌≡◌, ◌∙◌, ◌<◌, ◌≤◌, ◌++◌, length, Err, ap, sym, arith}
 use Rattle.src_index.specs.declared.fault.SourceFault.TheVariants.{Changed}
 use Rattle.src_index.specs.Gather.{first_packet}
 use Rattle.src_index.proofs.GatherLemmas.{segment_passed, segment_goes_on, segment_ends, segment_long, segment_sizes, segments_done}

@@ -1,12 +1,11 @@
-use Rattle.std.proofs.Common.{◌≡◌, ◌+◌, ◌-◌, ◌∙◌, ◌<◌, ◌≤◌, ◌++◌, List, ℕ, [], length, get_or, take, drop, Some, Err, ap, sym, arith, if◌then◌else◌}
+use Rattle.std.proofs.Common.{◌≡◌, ◌+◌, ◌-◌, ◌∙◌, length, get_or, take, drop, Some, Err, ap, sym, arith, if◌then◌else◌}
 use Rattle.vid_desk.specs.Meaning.{bytes_at}
 use Rattle.vid_desk.proofs.MeaningLemmas.{still, reads_twice}
 use Rattle.ogg_page.proofs.FrontLemmas.{from_place}
 use Rattle.src_index.specs.declared.fault.SourceFault.TheVariants.{Changed}
 use Rattle.src_index.specs.Index.{PageMark}
 use Rattle.src_index.specs.Gather.{body_at, first_packet, segments_from}
-use Rattle.src_index.specs.Pages.{kept_mark, marks_of, no_mark}
-use Rattle.src_index.specs.Holding.{place_of}
+use Rattle.src_index.specs.Pages.{marks_of, no_mark}
 use Rattle.src_index.proofs.GatherLemmas.{gather_on, none_past}
 use Rattle.src_index.proofs.packet.gather.Goals as goal
 

@@ -1,4 +1,4 @@
-use Rattle.std.proofs.Common.{rules, ◌≡◌, ◌+◌, ◌∙◌, ◌≤◌, List, ℕ, not, take, drop, length, sum, ap, sym, true, arith}
+use Rattle.std.proofs.Common.{rules, ◌≡◌, ◌+◌, ◌∙◌, take, drop, length, sum, ap, true, arith}
 use Rattle.vid_desk.specs.Meaning.{bytes_at}
 use Rattle.src_index.specs.Pages.{kept_mark}
 use Rattle.src_index.specs.SamePage.{same_page}

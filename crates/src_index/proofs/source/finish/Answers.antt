@@ -1,9 +1,3 @@
-use Rattle.std.proofs.Common.{◌≡◌, ◌∷◌, [], not, ap, sym, ◌∙◌}
-use Rattle.src_index.specs.declared.packets.Packets.{Packets}
-use Rattle.src_index.specs.Index.{Index}
-use Rattle.src_index.specs.Judge.{end_check}
-use Rattle.src_index.specs.Judging.{before_of}
-use Rattle.src_index.specs.Holding.{kept_of}
 use Rattle.src_index.proofs.TurnLemmas.{ends_badly_as, found_as}
 use Rattle.src_index.proofs.source.finish.Goals as goal
 

@@ -1,4 +1,4 @@
-use Rattle.std.proofs.Common.{rules, ◌≡◌, Ok, IsOk, is_ok, ap, arith}
+use Rattle.std.proofs.Common.{rules, ◌≡◌, Ok, is_ok, ap, arith}
 use Rattle.ogg_link.specs.Walk.{ended}
 use Rattle.src_index.specs.Judge.{in_link}
 use Rattle.src_index.proofs.WalkLemmas.{three_there}

@@ -1,8 +1,6 @@
 use Rattle.std.proofs.Common.{◌≡◌, ◌∙◌, ◌≤◌, Ok, drop, length, ap, sym, arith}
 use Rattle.ogg_page.specs.Page.{view, page_at_front, bytes_of_page}
-use Rattle.ogg_link.specs.Walk.{is_of_track}
 use Rattle.src_index.specs.declared.judge.Judging.{Judging}
-use Rattle.src_index.specs.Judge.{page_checks}
 use Rattle.src_index.specs.Judging.{before_of}
 use Rattle.src_index.specs.Holding.{kept_of}
 use Rattle.src_index.proofs.LetterLemmas.{opens_one}

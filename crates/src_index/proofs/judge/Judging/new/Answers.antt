@@ -1,5 +1,4 @@
-use Rattle.std.proofs.Common.{rules, ◌≡◌, refl}
-use Rattle.src_index.specs.Judge.{nothing}
+use Rattle.std.proofs.Common.{rules, refl}
 use Rattle.src_index.proofs.TurnLemmas.{follow_start}
 use Rattle.src_index.proofs.judge.Judging.new.Goals as goal
 

@@ -1,4 +1,4 @@
-use Rattle.std.proofs.Common.{rules, ◌≡◌, ◌≤◌, Ok}
+use Rattle.std.proofs.Common.{rules, ◌≡◌, Ok}
 use Rattle.ogg_page.specs.Page.{view}
 use Rattle.ogg_page.specs.Packets.{packets_from, left_from}
 use Rattle.ogg_link.specs.Walk.{step}

@@ -1,12 +1,12 @@
-use Rattle.std.proofs.Common.{rules, ◌≡◌, ◌+◌, ◌∙◌, ◌<◌, List, ℕ, [], length, get_or, map, true, false, Ok, ap, sym, subst, refl, arith}
+use Rattle.std.proofs.Common.{rules, ◌≡◌, ◌∙◌, ◌<◌, [], length, get_or, map, true, false, ap, sym, subst, refl, arith}
 use Rattle.std.proofs.lemmas.List.{get_or-map, length-map}
 use Rattle.vid_desk.specs.Meaning.{bytes_at}
 use Rattle.ogg_page.specs.Granule.{is_key}
 use Rattle.src_index.specs.Index.{Frame, Index}
-use Rattle.src_index.specs.Track.{frames_of, frame_at}
+use Rattle.src_index.specs.Track.{frames_of}
 use Rattle.src_index.specs.Gather.{StandsAt}
 use Rattle.src_index.specs.Pages.{marks_of}
-use Rattle.src_index.specs.Holding.{frame_of, place_of}
+use Rattle.src_index.specs.Holding.{frame_of}
 use Rattle.src_index.proofs.FillLemmas.{stands_of, gathered, carries}
 use Rattle.src_index.proofs.source.Source.fill.Goals as goal
 

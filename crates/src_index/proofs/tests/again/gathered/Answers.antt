@@ -1,5 +1,3 @@
-use Rattle.std.proofs.Common.{ap, arith}
-use Rattle.vid_desk.specs.Meaning.{Meaning}
 use Rattle.src_index.proofs.SourceLemmas.{still_loaded}
 use Rattle.src_index.proofs.tests.again.gathered.Goals as goal
 
