@@ -38,8 +38,8 @@ fn main(rt: HostRuntime) -> ExitCode {
     ExitCode::from(close(&mut desk, status).number())
 }
 
-// The status once the outputs are closed: Done only where that came to no fault. Else its line is said, and where that
-// fails too the status says it all the same.
+/// The status once the outputs are closed: Done only where that came to no fault. Else its line is said, and where that
+/// fails too the status says it all the same.
 fn close(desk: &mut FileDesk<HostRuntime>, status: Status) -> Status
     ensures refused { status ≢ Status.Done → result ≡ status }
     ensures done { result ≡ Status.Done → desk.new.write_faults ≡ desk.old.write_faults }

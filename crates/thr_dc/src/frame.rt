@@ -11,7 +11,7 @@ use crate::plane::Plane;
 use thr_token::Coeffs;
 use vid_geom::Geom;
 
-// Changes the DC values of the three planes.
+/// Changes the DC values of the three planes.
 fn change_planes(
     geom: &Geom,
     flags: &[bool],
@@ -30,7 +30,7 @@ fn change_planes(
     }
 }
 
-// Changes the DC values of a frame.
+/// Changes the DC values of a frame.
 fn change_frame(geom: &Geom, flags: &[bool], kinds: &[u8], coeffs: &mut Coeffs, change: Change)
     requires flags { length flags.now ≡ length (order_of geom.now) }
     requires kinds { length kinds.now ≡ length (order_of geom.now) }

@@ -35,7 +35,7 @@ impl<'a> Plane<'a> {
 }
 
 impl Plane<'_> {
-    // The coded place of a block by its place in raster order.
+    /// The coded place of a block by its place in raster order.
     fn coded_place(&self, place: u32) -> usize
         requires { place < self.now.blocks }
         ensures value { result ≡ place_of self.now.geom.now (raster_block self.now.geom.now self.now.pli place) }
@@ -59,7 +59,7 @@ impl Plane<'_> {
         self.geom.place(block) as usize
     }
 
-    // The DC value of the block at a coded place, where it counts for a kind.
+    /// The DC value of the block at a coded place, where it counts for a kind.
     fn counted_at(&self, values: &[[i16; 64]], coded_place: usize, kind: u8) -> Option<i16>
         requires below { coded_place < length (order_of self.now.geom.now) }
         requires values { length values.now ≡ length (order_of self.now.geom.now) }
@@ -75,7 +75,7 @@ impl Plane<'_> {
         Some(values[coded_place][0])
     }
 
-    // The DC value of a block, where it counts for a kind.
+    /// The DC value of a block, where it counts for a kind.
     fn counted(&self, values: &[[i16; 64]], place: u32, kind: u8) -> Option<i16>
         requires place { place < self.now.blocks }
         requires values { length values.now ≡ length (order_of self.now.geom.now) }
@@ -84,7 +84,7 @@ impl Plane<'_> {
         self.counted_at(values, self.coded_place(place), kind)
     }
 
-    // The value of the block in a column and a row, where there is such a block and it counts.
+    /// The value of the block in a column and a row, where there is such a block and it counts.
     fn neighbour(
         &self,
         values: &[[i16; 64]],
@@ -105,7 +105,7 @@ impl Plane<'_> {
         }
     }
 
-    // The last value of a kind before a place. From one block of a kind to the next no block is asked twice.
+    /// The last value of a kind before a place. From one block of a kind to the next no block is asked twice.
     fn last(&self, values: &[[i16; 64]], before: u32, kind: u8) -> i16
         requires place { before ≤ self.now.blocks }
         requires values { length values.now ≡ length (order_of self.now.geom.now) }
@@ -119,7 +119,7 @@ impl Plane<'_> {
         0
     }
 
-    // What the neighbours of a block predict, if one counts for a kind.
+    /// What the neighbours of a block predict, if one counts for a kind.
     fn around(&self, values: &[[i16; 64]], spot: Spot, kind: u8) -> Option<i32>
         requires place { spot.place < self.now.blocks }
         requires spot { IsSpot self.now.columns spot }

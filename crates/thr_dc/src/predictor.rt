@@ -3,7 +3,7 @@ ghost use Rattle.std.specs.Prelude.{◌≡◌, ℤ, pos, negsuc, ◌+ℤ◌, ◌
 ghost use Rattle.std.specs.Int.RustNames.{int_div, unsigned_abs};
 ghost use Rattle.thr_dc.specs.Predictor.{extended, far, from_neighbours};
 
-// A weight times a value.
+/// A weight times a value.
 fn scaled(weight: i32, value: i16) -> i32
     requires low { pos 0 ≤ℤ weight }
     requires high { weight ≤ℤ pos 128 }
@@ -35,7 +35,7 @@ fn difference(a: i32, b: i32) -> i32
     a - b
 }
 
-// The mean of two values.
+/// The mean of two values.
 fn mean(a: i16, b: i16) -> i32
     ensures value { result ≡ int_div (a +ℤ b) (pos 2) }
     ensures within { unsigned_abs result ≤ 32896 }
@@ -43,7 +43,7 @@ fn mean(a: i16, b: i16) -> i32
     (i32::from(a) + i32::from(b)) / 2
 }
 
-// The mean of the left and the lower right value, by how near they are.
+/// The mean of the left and the lower right value, by how near they are.
 fn mean_across(left: i16, lower_right: i16) -> i32
     ensures value { result ≡ int_div (pos 75 *ℤ left +ℤ pos 53 *ℤ lower_right) (pos 128) }
     ensures within { unsigned_abs result ≤ 32896 }
@@ -51,7 +51,7 @@ fn mean_across(left: i16, lower_right: i16) -> i32
     sum(scaled(75, left), scaled(53, lower_right)) / 128
 }
 
-// The mean of the three values below, by how near they are.
+/// The mean of the three values below, by how near they are.
 fn mean_below(lower_left: i16, below: i16, lower_right: i16) -> i32
     ensures value { result ≡ int_div (pos 3 *ℤ lower_left +ℤ pos 10 *ℤ below +ℤ pos 3 *ℤ lower_right) (pos 16) }
     ensures within { unsigned_abs result ≤ 32896 }
@@ -62,7 +62,7 @@ fn mean_below(lower_left: i16, below: i16, lower_right: i16) -> i32
     ) / 16
 }
 
-// How the values go on from three of them.
+/// How the values go on from three of them.
 fn slope(left: i16, lower_left: i16, below: i16) -> i32
     ensures value { result ≡ int_div (pos 29 *ℤ left -ℤ pos 26 *ℤ lower_left +ℤ pos 29 *ℤ below) (pos 32) }
     ensures small { unsigned_abs result ≤ 1000000 }
@@ -81,7 +81,7 @@ fn far(a: i32, b: i16) -> bool
     (a - i32::from(b)).unsigned_abs() > 128
 }
 
-// The same, or where it leads far off the first of the three that it is far from.
+/// The same, or where it leads far off the first of the three that it is far from.
 #[tactic(auto, unfolding(crate::specs::Predictor::extended))]
 fn extended(left: i16, lower_left: i16, below: i16) -> i32
     ensures value { result ≡ extended left lower_left below }

@@ -10,7 +10,7 @@ use crate::change::Change;
 use crate::plane::{Plane, Spot};
 
 impl Plane<'_> {
-    // Changes a block.
+    /// Changes a block.
     fn change_block(&self, values: &mut [[i16; 64]], spot: Spot, change: Change)
         requires place { spot.place < self.now.blocks }
         requires spot { IsSpot self.now.columns spot }
@@ -25,7 +25,7 @@ impl Plane<'_> {
         }
     }
 
-    // The column and the row of the next block: this divides nothing.
+    /// The column and the row of the next block: this divides nothing.
     fn next(&self, column: u32, row: u32) -> (u32, u32)
         requires { row < self.now.blocks }
         ensures { (place : ℕ) → IsAlong self.now.columns place column row → IsAlong self.now.columns (place + 1) result.0 result.1 }
@@ -37,7 +37,7 @@ impl Plane<'_> {
         }
     }
 
-    // Changes each block by the new values before it.
+    /// Changes each block by the new values before it.
     fn change_upwards(&self, values: &mut [[i16; 64]], change: Change)
         requires { length values.old ≡ length (order_of self.now.geom.now) }
         ensures { Rewrites (λ w blocks. by_new (value_by change) w [] blocks) self.now.geom.now self.now.flags.now self.now.kinds.now self.now.pli values.old values.new }
@@ -52,7 +52,7 @@ impl Plane<'_> {
         }
     }
 
-    // Changes each block by the old values before it: from the last to the first, so that these still stand there.
+    /// Changes each block by the old values before it: from the last to the first, so that these still stand there.
     fn change_downwards(&self, values: &mut [[i16; 64]], change: Change)
         requires { length values.old ≡ length (order_of self.now.geom.now) }
         ensures { Rewrites (λ w blocks. by_old (value_by change) w [] blocks) self.now.geom.now self.now.flags.now self.now.kinds.now self.now.pli values.old values.new }

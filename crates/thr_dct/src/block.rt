@@ -6,7 +6,7 @@ ghost use Rattle.thr_dct.specs.Inverse.{row, column, columns, turned, settled, i
 
 use crate::line::line;
 
-// That row of a block.
+/// That row of a block.
 #[tactic(auto, using(crate::proofs::Cuts::casts), unfolding(crate::specs::Inverse::row))]
 fn row(block: &[i16; 64], r: usize) -> [i16; 8]
     requires { r < 8 }
@@ -25,7 +25,7 @@ fn row(block: &[i16; 64], r: usize) -> [i16; 8]
     ]
 }
 
-// That column of a block.
+/// That column of a block.
 #[tactic(auto, using(crate::proofs::Cuts::casts), unfolding(crate::specs::Inverse::column))]
 fn column(block: &[i16; 64], j: usize) -> [i16; 8]
     requires { j < 8 }
@@ -43,7 +43,7 @@ fn column(block: &[i16; 64], j: usize) -> [i16; 8]
     ]
 }
 
-// Writes eight numbers into that column of a block.
+/// Writes eight numbers into that column of a block.
 fn put_column(block: &mut [i16; 64], j: usize, column: [i16; 8])
     requires { j < 8 }
     ensures own { (r : ℕ) → r < 8 → entry block.new (8 * r + j) ≡ entry column r }
@@ -54,7 +54,7 @@ fn put_column(block: &mut [i16; 64], j: usize, column: [i16; 8])
     }
 }
 
-// A sixteenth, to the nearest number and halves upwards. The sum is not made, since it may not fit 16 bits.
+/// A sixteenth, to the nearest number and halves upwards. The sum is not made, since it may not fit 16 bits.
 #[tactic(auto, unfolding(crate::specs::Inverse::settled))]
 fn settled(x: i16) -> i16
     ensures { result ≡ settled x }
@@ -62,7 +62,7 @@ fn settled(x: i16) -> i16
     (x >> 4).wrapping_add((x >> 3) & 1)
 }
 
-// Writes eight numbers into that column of a block, each settled.
+/// Writes eight numbers into that column of a block, each settled.
 fn put_settled(block: &mut [i16; 64], j: usize, column: [i16; 8])
     requires { j < 8 }
     ensures own { (r : ℕ) → r < 8 → entry block.new (8 * r + j) ≡ settled (entry column r) }
@@ -73,7 +73,7 @@ fn put_settled(block: &mut [i16; 64], j: usize, column: [i16; 8])
     }
 }
 
-// Rows become columns.
+/// Rows become columns.
 fn turn(block: &[i16; 64]) -> [i16; 64]
     ensures { result ≡ turned block.now }
 {
@@ -84,7 +84,7 @@ fn turn(block: &[i16; 64]) -> [i16; 64]
     out
 }
 
-// Each column goes through the transform of one line.
+/// Each column goes through the transform of one line.
 fn columns(block: &[i16; 64]) -> [i16; 64]
     ensures { result ≡ columns block.now }
 {
@@ -95,7 +95,7 @@ fn columns(block: &[i16; 64]) -> [i16; 64]
     out
 }
 
-// The same, and each number is settled.
+/// The same, and each number is settled.
 fn settled_columns(block: &[i16; 64]) -> [i16; 64]
     ensures { result ≡ map settled (columns block.now) }
 {

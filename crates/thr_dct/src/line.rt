@@ -22,7 +22,7 @@ fn difference(u: i16, v: i16) -> i16
     u.wrapping_sub(v)
 }
 
-// The high half of a product, with bounds that let it be cast to 16 bits.
+/// The high half of a product, with bounds that let it be cast to 16 bits.
 fn wide_high(c: i16, v: i16) -> i32
     ensures value { result ≡ int_shr (c *ℤ v) 16 }
     ensures low { negsuc 32767 ≤ℤ result }
@@ -31,14 +31,14 @@ fn wide_high(c: i16, v: i16) -> i32
     (i32::from(c) * i32::from(v)) >> 16
 }
 
-// The same in 16 bits.
+/// The same in 16 bits.
 fn high(c: i16, v: i16) -> i16
     ensures { result ≡ int_shr (c *ℤ v) 16 }
 {
     wide_high(c, v) as i16
 }
 
-// The product by a constant, 65536 of which are one. As a signed number a constant from a half on is less by one.
+/// The product by a constant, 65536 of which are one. As a signed number a constant from a half on is less by one.
 fn scaled(c: u16, v: i16) -> i16
     ensures { result ≡ m (pos c) v }
 {
@@ -74,7 +74,7 @@ fn difference_of_scaled(c: u16, u: i16, d: u16, v: i16) -> i16
     difference(scaled(c, u), scaled(d, v))
 }
 
-// What the even entries of a line give.
+/// What the even entries of a line give.
 #[derive(Clone, Copy)]
 struct Even {
     e0: i16,
@@ -83,7 +83,7 @@ struct Even {
     e3: i16,
 }
 
-// What its odd entries give.
+/// What its odd entries give.
 #[derive(Clone, Copy)]
 struct Odd {
     o0: i16,
@@ -130,7 +130,7 @@ fn odd_part(y1: i16, y3: i16, y5: i16, y7: i16) -> Odd
     }
 }
 
-// Eight numbers of a line after the transform.
+/// Eight numbers of a line after the transform.
 pub fn line(y: [i16; 8]) -> [i16; 8]
     ensures { result ≡ line y }
 {

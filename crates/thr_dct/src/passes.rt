@@ -6,10 +6,10 @@ ghost use Rattle.thr_dct.specs.Passes.{summed_rows};
 
 use crate::sums::sums_of_row;
 
-// A half of one, of which a coefficient has 2^32.
+/// A half of one, of which a coefficient has 2^32.
 const HALF: i64 = 2_147_483_648;
 
-// The residuals with room for their sums.
+/// The residuals with room for their sums.
 fn widened(r: &[i16; 64]) -> [i32; 64]
     ensures { result ≡ r.now }
 {
@@ -20,7 +20,7 @@ fn widened(r: &[i16; 64]) -> [i32; 64]
     out
 }
 
-// Writes eight sums into that column of a block.
+/// Writes eight sums into that column of a block.
 fn put_sums(block: &mut [i64; 64], j: usize, sums: [i64; 8])
     requires { j < 8 }
     ensures own { (u : ℕ) → u < 8 → entry block.new (8 * u + j) ≡ entry sums u }
@@ -31,7 +31,7 @@ fn put_sums(block: &mut [i64; 64], j: usize, sums: [i64; 8])
     }
 }
 
-// The sums of each row by the rows of the table, which become a column.
+/// The sums of each row by the rows of the table, which become a column.
 fn pass(block: &[i32; 64]) -> [i64; 64]
     requires { All (Within (2 ^ 27)) block.now }
     ensures { result ≡ summed_rows block.now }
@@ -43,7 +43,7 @@ fn pass(block: &[i32; 64]) -> [i64; 64]
     out
 }
 
-// The same numbers, for the second pass.
+/// The same numbers, for the second pass.
 fn narrowed(block: &[i64; 64]) -> [i32; 64]
     requires { All (Within (2 ^ 27)) block.now }
     ensures { result ≡ block.now }
@@ -55,7 +55,7 @@ fn narrowed(block: &[i64; 64]) -> [i32; 64]
     out
 }
 
-// To the nearest number and halves upwards.
+/// To the nearest number and halves upwards.
 #[tactic(auto, using(crate::proofs::Cuts::casts), unfolding(crate::specs::Forward::scaled_down))]
 fn scaled_down(s: i64) -> i32
     requires { Within (2 ^ 46) s }
@@ -64,7 +64,7 @@ fn scaled_down(s: i64) -> i32
     ((s + HALF) >> 32) as i32
 }
 
-// Each sum as a coefficient.
+/// Each sum as a coefficient.
 fn coefficients(sums: &[i64; 64]) -> [i32; 64]
     requires { All (Within (2 ^ 46)) sums.now }
     ensures { result ≡ map scaled_down sums.now }

@@ -44,7 +44,7 @@ fn difference_of_products(c: u16, u: i32, d: u16, v: i32) -> i64
     product(c, u) - product(d, v)
 }
 
-// The sums by the even rows.
+/// The sums by the even rows.
 #[derive(Clone, Copy)]
 struct EvenSums {
     f0: i64,
@@ -53,7 +53,7 @@ struct EvenSums {
     f6: i64,
 }
 
-// The sums by the odd rows.
+/// The sums by the odd rows.
 #[derive(Clone, Copy)]
 struct OddSums {
     f1: i64,
@@ -62,7 +62,7 @@ struct OddSums {
     f7: i64,
 }
 
-// From the sums of the ends of a line, the outer ends first.
+/// From the sums of the ends of a line, the outer ends first.
 fn even_sums(s0: i32, s1: i32, s2: i32, s3: i32) -> EvenSums
     requires bounds { Within (2 ^ 28) s0 × Within (2 ^ 28) s1 × Within (2 ^ 28) s2 × Within (2 ^ 28) s3 }
     ensures f0 { result.f0 ≡ c4 *ℤ (s0 +ℤ s3) +ℤ c4 *ℤ (s1 +ℤ s2) }
@@ -82,7 +82,7 @@ fn even_sums(s0: i32, s1: i32, s2: i32, s3: i32) -> EvenSums
     }
 }
 
-// From the differences of the ends, the outer ends first.
+/// From the differences of the ends, the outer ends first.
 fn odd_sums(d0: i32, d1: i32, d2: i32, d3: i32) -> OddSums
     ensures f1 { result.f1 ≡ (c1 *ℤ d0 +ℤ c3 *ℤ d1) +ℤ (c5 *ℤ d2 +ℤ c7 *ℤ d3) }
     ensures f3 { result.f3 ≡ (c3 *ℤ d0 -ℤ c7 *ℤ d1) -ℤ (c1 *ℤ d2 +ℤ c5 *ℤ d3) }
@@ -97,7 +97,7 @@ fn odd_sums(d0: i32, d1: i32, d2: i32, d3: i32) -> OddSums
     }
 }
 
-// Of two numbers of a line that stand equally far from its ends.
+/// Of two numbers of a line that stand equally far from its ends.
 #[derive(Clone, Copy)]
 struct Ends {
     sum: i32,
@@ -120,7 +120,7 @@ fn ends_at(block: &[i32; 64], r: usize, k: usize) -> Ends
     }
 }
 
-// The sums of that row of a block by the eight rows of the table.
+/// The sums of that row of a block by the eight rows of the table.
 pub fn sums_of_row(block: &[i32; 64], r: usize) -> [i64; 8]
     requires row { r < 8 }
     requires numbers { All (Within (2 ^ 27)) block.now }

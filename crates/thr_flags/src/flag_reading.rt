@@ -8,7 +8,7 @@ use crate::reading::{fill_run, read_long_in, read_short_in, size};
 use vid_base::{BitReader, PacketFault, Refusal};
 use vid_geom::Geom;
 
-// How many superblocks are not partly coded.
+/// How many superblocks are not partly coded.
 fn count_whole(partly: &[bool]) -> usize
     ensures value { result ≡ count_whole partly.now }
     ensures most { result ≤ length partly.now }
@@ -16,7 +16,7 @@ fn count_whole(partly: &[bool]) -> usize
     partly.iter().filter(|partial| !**partial).count()
 }
 
-// How many blocks the partly coded superblocks have.
+/// How many blocks the partly coded superblocks have.
 fn partial_blocks(geom: &Geom, partly: &[bool]) -> usize
     requires { length partly.now ≡ length (superblocks geom.now) }
     ensures value { result ≡ partial_blocks (sizes_of geom.now) partly.now }
@@ -32,7 +32,7 @@ fn partial_blocks(geom: &Geom, partly: &[bool]) -> usize
     count as usize
 }
 
-// Sets the values from a place on to these.
+/// Sets the values from a place on to these.
 fn copy_values(into: &mut [bool], at: usize, values: &[bool])
     requires { at + length values.now ≤ length into.old }
     ensures { take (at + length values.now) into.new ≡ take at into.old ++ values.now }
@@ -40,7 +40,7 @@ fn copy_values(into: &mut [bool], at: usize, values: &[bool])
     into[at..at + values.len()].copy_from_slice(values);
 }
 
-// Sets the flags by what the three strings said.
+/// Sets the flags by what the three strings said.
 fn spread(geom: &Geom, partly: &[bool], fully: &[bool], single: &[bool], flags: &mut [bool])
     requires partly { length partly.now ≡ length (superblocks geom.now) }
     requires fully { length fully.now ≡ count_whole partly.now }
@@ -94,7 +94,7 @@ pub fn read_flags_in(
 pub fn read_flags(r: &mut BitReader, geom: &Geom, flags: &mut Vec<bool>) -> Result<(), Refusal>
     ensures value { GivesOrNoMem (λ _. flags.new.items) result r.new.left (flags_of geom.now r.old.left) }
     ensures sized { OnOk result (length flags.new.items ≡ length (order_of geom.now)) }
-    ensures refused { OnErr result (flags.new.items ≡ []) }
+    ensures emptied { OnErr result (flags.new.items ≡ []) }
     ensures memory { KeptOnNoMem result r.old r.new }
     ensures end { SameEnd r.old r.new }
 {

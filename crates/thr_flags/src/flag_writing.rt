@@ -13,21 +13,21 @@ use crate::writing::{close, push};
 use vid_base::{BitWriter, NoMem};
 use vid_geom::Geom;
 
-// Whether some of the blocks are coded.
+/// Whether some of the blocks are coded.
 fn has_coded(part: &[bool]) -> bool
     ensures { result ≡ list_any (λ coded. coded) part.now }
 {
     part.iter().any(|coded| *coded)
 }
 
-// Whether some of the blocks are not coded.
+/// Whether some of the blocks are not coded.
 fn has_uncoded(part: &[bool]) -> bool
     ensures { result ≡ list_any not part.now }
 {
     part.iter().any(|coded| !*coded)
 }
 
-// Whether a superblock with these flags is partly coded.
+/// Whether a superblock with these flags is partly coded.
 #[tactic(auto, unfolding(crate::specs::WrittenFlags::is_partial))]
 fn is_partial(part: &[bool]) -> bool
     ensures { result ≡ is_partial part.now }
@@ -35,7 +35,7 @@ fn is_partial(part: &[bool]) -> bool
     has_coded(part) && has_uncoded(part)
 }
 
-// The flags of a superblock.
+/// The flags of a superblock.
 #[tactic(auto, using(crate::proofs::PartLemmas::part_at))]
 fn part_of<'a>(geom: &Geom, flags: &'a [bool], s: u32) -> &'a [bool]
     requires s { s < length (superblocks geom.now) }
@@ -47,7 +47,7 @@ fn part_of<'a>(geom: &Geom, flags: &'a [bool], s: u32) -> &'a [bool]
     &flags[first as usize..past as usize]
 }
 
-// Writes which superblocks are partly coded.
+/// Writes which superblocks are partly coded.
 fn write_partly(w: &mut BitWriter, geom: &Geom, flags: &[bool]) -> Result<(), NoMem>
     requires { length flags.now ≡ length (order_of geom.now) }
     ensures reads_back { OnOk result (AddsString Long (partly_in (parts_of geom.now flags.now)) w.old w.new) }
@@ -62,7 +62,7 @@ fn write_partly(w: &mut BitWriter, geom: &Geom, flags: &[bool]) -> Result<(), No
     close(w, RunCode::Long, last)
 }
 
-// Writes whether each other superblock is fully coded.
+/// Writes whether each other superblock is fully coded.
 fn write_fully(w: &mut BitWriter, geom: &Geom, flags: &[bool]) -> Result<(), NoMem>
     requires { length flags.now ≡ length (order_of geom.now) }
     ensures reads_back { OnOk result (AddsString Long (fully_in (parts_of geom.now flags.now)) w.old w.new) }
@@ -79,7 +79,7 @@ fn write_fully(w: &mut BitWriter, geom: &Geom, flags: &[bool]) -> Result<(), NoM
     close(w, RunCode::Long, last)
 }
 
-// Writes which blocks of the partly coded superblocks are coded.
+/// Writes which blocks of the partly coded superblocks are coded.
 fn write_single(w: &mut BitWriter, geom: &Geom, flags: &[bool]) -> Result<(), NoMem>
     requires { length flags.now ≡ length (order_of geom.now) }
     ensures reads_back { OnOk result (AddsString Short (single_in (parts_of geom.now flags.now)) w.old w.new) }

@@ -17,7 +17,7 @@ pub(crate) fn fill_run(into: &mut [bool], at: usize, run: usize, value: bool)
     into[at..at + run].fill(value);
 }
 
-// Reads the values from the first run on.
+/// Reads the values from the first run on.
 fn read_runs(
     r: &mut BitReader,
     code: RunCode,
@@ -46,7 +46,7 @@ fn read_runs(
     Err(PacketFault::RunTooLong)
 }
 
-// Reads as many values as the slice is long.
+/// Reads as many values as the slice is long.
 pub(crate) fn read_string(
     r: &mut BitReader,
     code: RunCode,
@@ -83,7 +83,7 @@ pub fn read_short_in(r: &mut BitReader, into: &mut [bool]) -> Result<(), PacketF
 /// Makes the list as many values long. Those that it has stay, to be read over.
 pub(crate) fn size(into: &mut Vec<bool>, n: usize) -> Result<(), Refusal>
     ensures sized { OnOk result (length into.new.items ≡ n) }
-    ensures refused { OnErr result (into.new.items ≡ []) }
+    ensures emptied { OnErr result (into.new.items ≡ []) }
     ensures memory { OnErr result (result ≡ Err NoMem) }
 {
     if into.resize(n, false).is_err() {
@@ -93,7 +93,7 @@ pub(crate) fn size(into: &mut Vec<bool>, n: usize) -> Result<(), Refusal>
     Ok(())
 }
 
-// A reader of a string fills a list in place of a slice.
+/// A reader of a string fills a list in place of a slice.
 fn read_string_into(
     r: &mut BitReader,
     code: RunCode,
@@ -101,7 +101,7 @@ fn read_string_into(
     into: &mut Vec<bool>,
 ) -> Result<(), Refusal>
     ensures value { GivesOrNoMem (λ _. into.new.items) result r.new.left (run_string (run_form code) n r.old.left) }
-    ensures refused { OnErr result (into.new.items ≡ []) }
+    ensures emptied { OnErr result (into.new.items ≡ []) }
     ensures memory { KeptOnNoMem result r.old r.new }
     ensures end { SameEnd r.old r.new }
 {
@@ -117,7 +117,7 @@ fn read_string_into(
 /// `Ended`, or `RunTooLong` where a run whose bits were all read passes n. After a refusal the list is empty.
 pub fn read_long(r: &mut BitReader, n: u32, into: &mut Vec<bool>) -> Result<(), Refusal>
     ensures value { GivesOrNoMem (λ _. into.new.items) result r.new.left (long_string n r.old.left) }
-    ensures refused { OnErr result (into.new.items ≡ []) }
+    ensures emptied { OnErr result (into.new.items ≡ []) }
     ensures memory { KeptOnNoMem result r.old r.new }
     ensures end { SameEnd r.old r.new }
 {
@@ -127,7 +127,7 @@ pub fn read_long(r: &mut BitReader, n: u32, into: &mut Vec<bool>) -> Result<(), 
 /// Reads a short run string of n values (Theora I, 7.2.2), otherwise as `read_long`.
 pub fn read_short(r: &mut BitReader, n: u32, into: &mut Vec<bool>) -> Result<(), Refusal>
     ensures value { GivesOrNoMem (λ _. into.new.items) result r.new.left (short_string n r.old.left) }
-    ensures refused { OnErr result (into.new.items ≡ []) }
+    ensures emptied { OnErr result (into.new.items ≡ []) }
     ensures memory { KeptOnNoMem result r.old r.new }
     ensures end { SameEnd r.old r.new }
 {

@@ -17,7 +17,7 @@ pub(crate) enum RunCode {
     Short,
 }
 
-// The next bit.
+/// The next bit.
 #[tactic(auto, unfolding(vid_base::specs::Reading::one_bit))]
 fn bit(r: &mut BitReader) -> Result<bool, PacketFault>
     ensures value { Gives (λ v. v) result r.new.left (one_bit r.old.left) }
@@ -26,7 +26,7 @@ fn bit(r: &mut BitReader) -> Result<bool, PacketFault>
     Ok(r.bit()?)
 }
 
-// The number of the next n bits.
+/// The number of the next n bits.
 fn number(r: &mut BitReader, n: u32) -> Result<u32, PacketFault>
     requires { n ≤ 16 }
     ensures value { Gives (λ v. v) result r.new.left (field n r.old.left) }
@@ -36,7 +36,7 @@ fn number(r: &mut BitReader, n: u32) -> Result<u32, PacketFault>
     Ok(r.take(n)?)
 }
 
-// A run of a row of a table: its least length, and how many bits say how much longer it is.
+/// A run of a row of a table: its least length, and how many bits say how much longer it is.
 fn run_from(r: &mut BitReader, least: u32, n: u32) -> Result<u32, PacketFault>
     requires least { (0 < least) × (least < 2 ^ 8) }
     requires n { n ≤ 12 }
@@ -48,7 +48,7 @@ fn run_from(r: &mut BitReader, least: u32, n: u32) -> Result<u32, PacketFault>
     Ok(least + number(r, n)?)
 }
 
-// The next run of a long string.
+/// The next run of a long string.
 #[tactic(auto, unfolding(crate::specs::RunStrings::run_of))]
 fn long_run(r: &mut BitReader) -> Result<u32, PacketFault>
     ensures value { Gives (λ v. v) result r.new.left (run_of Long r.old.left) }
@@ -77,7 +77,7 @@ fn long_run(r: &mut BitReader) -> Result<u32, PacketFault>
     run_from(r, 34, 12)
 }
 
-// The next run of a short string.
+/// The next run of a short string.
 #[tactic(auto, unfolding(crate::specs::RunStrings::run_of))]
 fn short_run(r: &mut BitReader) -> Result<u32, PacketFault>
     ensures value { Gives (λ v. v) result r.new.left (run_of Short r.old.left) }
@@ -103,8 +103,8 @@ fn short_run(r: &mut BitReader) -> Result<u32, PacketFault>
     run_from(r, 15, 4)
 }
 
-// A row of a table of runs: the bits in front of it as a number and how many they are, its shortest run, and how many
-// bits say how much longer a run is.
+/// A row of a table of runs: the bits in front of it as a number and how many they are, its shortest run, and how many
+/// bits say how much longer a run is.
 #[derive(Clone, Copy)]
 struct Row {
     front: u32,
@@ -124,7 +124,7 @@ fn table_row(front: u32, width: u32, least: u32, n: u32) -> Row
     }
 }
 
-// The row of a run of a long string.
+/// The row of a run of a long string.
 #[tactic(auto, unfolding(crate::specs::RunStrings::run_of, vid_base::specs::Reading::one_bit, vid_base::specs::Bits::digits))]
 fn long_row(run: u32) -> Row
     requires { (0 < run) × (run ≤ 4129) }
@@ -144,7 +144,7 @@ fn long_row(run: u32) -> Row
     }
 }
 
-// The row of a run of a short string.
+/// The row of a run of a short string.
 #[tactic(auto, unfolding(crate::specs::RunStrings::run_of, vid_base::specs::Reading::one_bit, vid_base::specs::Bits::digits))]
 fn short_row(run: u32) -> Row
     requires { (0 < run) × (run ≤ 30) }
@@ -164,7 +164,7 @@ fn short_row(run: u32) -> Row
 }
 
 impl RunCode {
-    // The row of a run.
+    /// The row of a run.
     fn row_of(self, run: u32) -> Row
         requires { (0 < run) × (run ≤ longest (run_form self)) }
         ensures front { (rest : List Bool) → run_of (run_form self) (digits result.width result.front ++ rest) ≡ run_from (result.least, result.n) rest }

@@ -15,7 +15,7 @@ pub(crate) struct Run {
     pub(crate) length: u32,
 }
 
-// One bit.
+/// One bit.
 fn put_bit(w: &mut BitWriter, bit: bool) -> Result<(), NoMem>
     ensures written { OnOk result (AddsBit bit w.old w.new) }
     ensures memory { OnErr result (Grows w.old w.new) }
@@ -23,7 +23,7 @@ fn put_bit(w: &mut BitWriter, bit: bool) -> Result<(), NoMem>
     w.put(u32::from(bit), 1)
 }
 
-// The first value of a string.
+/// The first value of a string.
 fn begin(w: &mut BitWriter, value: bool) -> Result<Run, NoMem>
     ensures written { IfOk result (λ run. (code : RunForm) → Holds code w.old w.new (value ∷ []) (Some run)) }
     ensures length { IfOk result (λ run. run.length ≡ 1) }
@@ -33,7 +33,7 @@ fn begin(w: &mut BitWriter, value: bool) -> Result<Run, NoMem>
     Ok(Run { value, length: 1 })
 }
 
-// The run ends, and a value begins the next.
+/// The run ends, and a value begins the next.
 fn turn(w: &mut BitWriter, code: RunCode, run: Run, value: bool) -> Result<Run, NoMem>
     requires run { IsRun (run_form code) run }
     requires other { is_renewed (run_form code) run.length ≡ false → value ≡ not run.value }
@@ -89,7 +89,7 @@ pub(crate) fn close(w: &mut BitWriter, code: RunCode, last: Option<Run>) -> Resu
     }
 }
 
-// Writes a string of these values.
+/// Writes a string of these values.
 fn write_string(w: &mut BitWriter, code: RunCode, bits: &[bool]) -> Result<(), NoMem>
     requires { run_form code ≡ Short → HasRunsUpTo 30 bits.now }
     ensures reads_back { OnOk result (AddsString (run_form code) bits.now w.old w.new) }

@@ -11,20 +11,20 @@ use crate::tree::{Tree, copied, read_tree, walk};
 use std::alloc::{AllocError, Global};
 use vid_base::{BitReader, Ended, NoMem, Refusal};
 
-// How many bits the table looks at.
+/// How many bits the table looks at.
 const WINDOW: u32 = 8;
 
-// The most levels of a tree with its root.
+/// The most levels of a tree with its root.
 const MOST_LEVELS: u32 = 33;
 
-// A token, and how many bits its code has.
+/// A token, and how many bits its code has.
 #[derive(Clone, Copy)]
 pub(crate) struct Entry {
     token: u8,
     len: u8,
 }
 
-// A tree, and for each number of the next bits the token whose code they begin with.
+/// A tree, and for each number of the next bits the token whose code they begin with.
 #[derive(Drop)]
 pub(crate) struct Book {
     pub(crate) tree: Tree,
@@ -32,7 +32,7 @@ pub(crate) struct Book {
     ghost right: { IsTable (codes_of (code_tree tree)) table.items },
 }
 
-// An entry of one tree of a branch, seen from the branch.
+/// An entry of one tree of a branch, seen from the branch.
 fn from_below(entry: Option<Entry>) -> Option<Entry>
     requires { IfSome entry (λ e. e.len < 255) }
     ensures { result ≡ option_map deeper entry }
@@ -46,7 +46,7 @@ fn from_below(entry: Option<Entry>) -> Option<Entry>
     }
 }
 
-// The token whose code the lowest n bits of the window begin with.
+/// The token whose code the lowest n bits of the window begin with.
 fn look_up(tree: &Tree, window: u32, n: u32) -> Option<Entry>
     requires { n ≤ 8 }
     ensures value { result ≡ entry_of (codes_of (code_tree tree.now)) (digits n window) }
@@ -80,7 +80,7 @@ impl Book {
         Ok(Book { tree, table })
     }
 
-    // The same tree with the same table.
+    /// The same tree with the same table.
     pub(crate) fn copied(&self) -> Result<Book, AllocError>
         ensures { IfOk result (λ copy. code_tree copy.tree ≡ code_tree self.now.tree) }
     {
@@ -90,7 +90,7 @@ impl Book {
         Ok(Book { tree, table })
     }
 
-    // Reads one tree.
+    /// Reads one tree.
     pub(crate) fn read(alloc: Global, r: &mut BitReader) -> Result<Book, Refusal>
         ensures value { GivesOrNoMem (λ book. code_tree book.tree) result r.new.left (tree_at 33 0 r.old.left) }
         ensures tree { IfOk result (λ book. IsTree (code_tree book.tree)) }
@@ -101,7 +101,7 @@ impl Book {
         Ok(Book::new(alloc, tree)?)
     }
 
-    // The token whose code the eight bits of the window begin with.
+    /// The token whose code the eight bits of the window begin with.
     fn entry_at(&self, window: u32) -> Option<Entry>
         requires { window < 256 }
         ensures { result ≡ entry_of (codes_of (code_tree self.now.tree)) (digits 8 window) }
@@ -109,7 +109,7 @@ impl Book {
         self.table[window as usize]
     }
 
-    // The token whose code stands at the front of the bits, and the same as `walk` gives.
+    /// The token whose code stands at the front of the bits, and the same as `walk` gives.
     pub(crate) fn token(&self, r: &mut BitReader) -> Result<u8, Ended>
         ensures value { Taken result r.new.left (front_token (codes_of (code_tree self.now.tree)) r.old.left) }
         ensures ended { OnErr result (r.new.left ≡ []) }

@@ -13,14 +13,14 @@ use std::alloc::{AllocError, Global};
 use std::marker::Model;
 use vid_base::{BitReader, BitWriter, Ended, NoMem, Refusal};
 
-// How many groups of trees a setup header has, how many trees each group has, and how many trees that makes.
+/// How many groups of trees a setup header has, how many trees each group has, and how many trees that makes.
 const GROUPS: u8 = 5;
 
 const ROWS: u8 = 16;
 
 const TREES: usize = 80;
 
-// How many tokens there are.
+/// How many tokens there are.
 const TOKENS: u8 = 32;
 
 /// The 80 trees of a setup header: number n of group g is tree 16 g + n.
@@ -64,7 +64,7 @@ pub fn trees_fit_a_header(forest: &Forest)
     let _ = &forest.books;
 }
 
-// 80 trees, one behind the other.
+/// 80 trees, one behind the other.
 fn read_trees(alloc: Global, r: &mut BitReader) -> Result<Forest, Refusal>
     ensures value { GivesOrNoMem (λ forest. forest) result r.new.left (forest_at r.old.left) }
     ensures end { SameEnd r.old r.new }
@@ -156,7 +156,7 @@ impl Forest {
         self.first_full()
     }
 
-    // The first number whose trees hold all tokens.
+    /// The first number whose trees hold all tokens.
     #[tactic(auto, unfolding(crate::specs::Rows::full_row_of))]
     fn first_full(&self) -> Option<u8>
         ensures { result ≡ full_row_of self.now }
@@ -164,7 +164,7 @@ impl Forest {
         (0..ROWS).find(|&number| self.is_full_row(number))
     }
 
-    // Whether the trees of this number hold all tokens.
+    /// Whether the trees of this number hold all tokens.
     #[tactic(auto, unfolding(crate::specs::Rows::is_full_row))]
     fn is_full_row(&self, number: u8) -> bool
         requires { number < 16 }
@@ -173,7 +173,7 @@ impl Forest {
         (0..GROUPS).all(|group| self.has_all_tokens(ROWS * group + number))
     }
 
-    // Whether a code of tree hti leads to the token.
+    /// Whether a code of tree hti leads to the token.
     fn has_token(&self, hti: u8, token: u8) -> bool
         requires hti { hti < 80 }
         requires token { token < 32 }
@@ -182,7 +182,7 @@ impl Forest {
         self.code(hti, token).is_some()
     }
 
-    // Whether a code of tree hti leads to each token.
+    /// Whether a code of tree hti leads to each token.
     #[tactic(auto, unfolding(crate::specs::Rows::has_all_tokens))]
     fn has_all_tokens(&self, hti: u8) -> bool
         requires { hti < 80 }

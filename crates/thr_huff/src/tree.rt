@@ -9,7 +9,7 @@ use crate::Code;
 use std::alloc::{AllocError, Global};
 use vid_base::{BitReader, BitWriter, Ended, NoMem, PacketFault, Refusal};
 
-// The most leaves of a tree.
+/// The most leaves of a tree.
 const MOST_LEAVES: u32 = 32;
 
 /// A tree of codes: a leaf with its token, or the tree for a bit 0 and the tree for a bit 1.
@@ -39,7 +39,7 @@ impl Tree {
     }
 }
 
-// A tree with the same codes.
+/// A tree with the same codes.
 #[tactic(auto, unfolding(crate::specs::CodeTree::code_tree))]
 pub(crate) fn copied(alloc: Global, tree: &Tree) -> Result<Tree, AllocError>
     ensures { IfOk result (λ copy. code_tree copy ≡ code_tree tree.now) }
@@ -54,7 +54,7 @@ pub(crate) fn copied(alloc: Global, tree: &Tree) -> Result<Tree, AllocError>
     }
 }
 
-// A tree of at most so many levels, and the leaves that were read so far.
+/// A tree of at most so many levels, and the leaves that were read so far.
 #[tactic(auto, unfolding(crate::specs::Trees::tree_at))]
 pub(crate) fn read_tree(
     alloc: Global,
@@ -86,7 +86,7 @@ pub(crate) fn read_tree(
     Ok(Tree::branch(alloc, left, right)?)
 }
 
-// Adds the bits of a tree.
+/// Adds the bits of a tree.
 pub(crate) fn write_tree(w: &mut BitWriter, tree: &Tree) -> Result<(), NoMem>
     requires { All (λ code. code.1 < 32) (codes_of (code_tree tree.now)) }
     ensures written { OnOk result (w.new ≡ w.old ++ tree_bits (code_tree tree.now)) }
@@ -105,7 +105,7 @@ pub(crate) fn write_tree(w: &mut BitWriter, tree: &Tree) -> Result<(), NoMem>
     }
 }
 
-// The token whose code stands at the front of the bits, bit by bit.
+/// The token whose code stands at the front of the bits, bit by bit.
 pub(crate) fn walk(tree: &Tree, r: &mut BitReader) -> Result<u8, Ended>
     ensures value { Taken result r.new.left (front_token (codes_of (code_tree tree.now)) r.old.left) }
     ensures ended { OnErr result (r.new.left ≡ []) }
@@ -123,7 +123,7 @@ pub(crate) fn walk(tree: &Tree, r: &mut BitReader) -> Result<u8, Ended>
     }
 }
 
-// The code with one more bit in front.
+/// The code with one more bit in front.
 fn longer(bit: bool, code: Code) -> Code
     requires { code.len < 32 }
     ensures { code_bits result ≡ bit ∷ code_bits code }
@@ -134,7 +134,7 @@ fn longer(bit: bool, code: Code) -> Code
     }
 }
 
-// The code of the first leaf that holds the token.
+/// The code of the first leaf that holds the token.
 pub(crate) fn code_in(tree: &Tree, token: u8) -> Option<Code>
     requires { All (λ code. length code.0 < 33) (codes_of (code_tree tree.now)) }
     ensures { option_map code_bits result ≡ code_of (codes_of (code_tree tree.now)) token }

@@ -5,6 +5,7 @@ use Rattle.vid_base.specs.declared.fault.PacketFault.{PacketFault}
 use Rattle.vid_base.specs.declared.fault.PacketFault.TheVariants.{Ended, NotIdent, Version, BadSize, BadRate, PixelFormat, Reserved, TooLarge}
 use Rattle.thr_ident.specs.declared.ident.Ident.{Ident}
 use Rattle.thr_ident.specs.Header.{Header, ident_name, ident_length, header_in}
+use Rattle.vid_base.specs.Sizes.{most_macro_blocks}
 use Rattle.vid_base.specs.Rules.{Rule, first_fault, unless}
 
 -- no size is 0, and the picture lies inside the coded frame
@@ -16,7 +17,7 @@ unfoldable pub header_rules : Header → List (Rule PacketFault)
 header_rules h =
     (h.vmaj == 3 && h.vmin == 2, Version)
     ∷ (has_sound_sizes h, BadSize)
-    ∷ (nat_le (h.fmbw * h.fmbh) 131072, TooLarge)
+    ∷ (nat_le (h.fmbw * h.fmbh) most_macro_blocks, TooLarge)
     ∷ (nat_lt 0 h.frn && nat_lt 0 h.frd, BadRate)
     ∷ (not (h.pf == 1), PixelFormat)
     ∷ (h.reserved == 0, Reserved)

@@ -11,7 +11,7 @@ const COMMENT_NAME: [u8; 7] = [0x81, b't', b'h', b'e', b'o', b'r', b'a'];
 /// The comment header of streams that are made here.
 const OWN_COMMENT: [u8; 21] = *b"\x81theora\x06\0\0\0oggcut\0\0\0\0";
 
-// The number at the front, and the bytes behind it.
+/// The number at the front, and the bytes behind it.
 #[tactic(auto, unfolding(crate::specs::Comment::length_in))]
 fn read_length(bytes: &[u8]) -> Result<(u32, &[u8]), PacketFault>
     ensures value { IfOk result (λ found. length_in bytes.now ≡ Some (found.0, found.1.now)) }
@@ -23,7 +23,7 @@ fn read_length(bytes: &[u8]) -> Result<(u32, &[u8]), PacketFault>
     }
 }
 
-// The bytes behind a length and its text.
+/// The bytes behind a length and its text.
 #[tactic(auto, unfolding(crate::specs::Comment::after_text))]
 fn skip_text(bytes: &[u8]) -> Result<&[u8], PacketFault>
     ensures value { IfOk result (λ rest. after_text bytes.now ≡ Some rest.now) }
@@ -37,8 +37,8 @@ fn skip_text(bytes: &[u8]) -> Result<&[u8], PacketFault>
     Ok(&text[length..])
 }
 
-// The bytes behind so many lengths and their texts. Each has 4 bytes or more, so a count that the packet cannot hold
-// costs no more than the packet.
+/// The bytes behind so many lengths and their texts. Each has 4 bytes or more, so a count that the packet cannot hold
+/// costs no more than the packet.
 #[tactic(auto, using(crate::proofs::CommentLemmas::texts_step, crate::proofs::CommentLemmas::texts_fault, crate::proofs::CommentLemmas::texts_end))]
 fn skip_texts(bytes: &[u8], count: u32) -> Result<&[u8], PacketFault>
     ensures value { IfOk result (λ rest. after_texts count bytes.now ≡ Some rest.now) }

@@ -6,16 +6,13 @@ ghost use Rattle.thr_ident.specs.Header.{header_in, ident_length, Fits};
 ghost use Rattle.thr_ident.specs.Ident.{has_sound_sizes, header_rules};
 ghost use Rattle.vid_base.specs.Rules.{first_fault};
 
-use vid_base::{BitReader, PacketFault};
+use vid_base::{BitReader, MOST_MACRO_BLOCKS, PacketFault};
 
 /// The first bytes of an identification header: its type, and the codec's name (Theora I, 6.1).
 pub(crate) const IDENT_NAME: [u8; 7] = [0x80, b't', b'h', b'e', b'o', b'r', b'a'];
 
 /// Bytes of an identification header.
 pub(crate) const IDENT_BYTES: usize = 42;
-
-/// The most macro blocks of a frame (own).
-const MOST_MACRO_BLOCKS: u32 = 131_072;
 
 /// Major and minor version of the format.
 pub(crate) const VERSION: [u8; 2] = [3, 2];
@@ -47,7 +44,7 @@ pub(crate) struct Fields {
     pub(crate) reserved: u8,
 }
 
-// A reader of the bits behind the name.
+/// A reader of the bits behind the name.
 fn behind_name(bytes: &[u8]) -> BitReader<'_>
     requires { 7 ≤ length bytes.now }
     ensures left { result.left ≡ drop 56 (bits_of bytes.now) }
@@ -56,7 +53,7 @@ fn behind_name(bytes: &[u8]) -> BitReader<'_>
     BitReader::new(&bytes[IDENT_NAME.len()..])
 }
 
-// The number of the next n bits, which are there.
+/// The number of the next n bits, which are there.
 fn field(r: &mut BitReader, n: u32) -> u32
     requires n { n ≤ 32 }
     requires there { n ≤ length r.old.left }
@@ -68,7 +65,7 @@ fn field(r: &mut BitReader, n: u32) -> u32
     r.take(n).unwrap()
 }
 
-// The next byte, which is there.
+/// The next byte, which is there.
 fn byte(r: &mut BitReader) -> u8
     requires { 8 ≤ length r.old.left }
     ensures value { result ≡ number (take 8 r.old.left) }
@@ -109,7 +106,7 @@ impl Fields {
         }
     }
 
-    // No size is 0, and the picture lies inside the coded frame.
+    /// No size is 0, and the picture lies inside the coded frame.
     fn has_sound_sizes(&self) -> bool
         ensures { result ≡ has_sound_sizes (header_from self.now) }
     {

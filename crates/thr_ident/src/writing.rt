@@ -7,7 +7,7 @@ use crate::Ident;
 use crate::header::{IDENT_BYTES, IDENT_NAME, VERSION};
 use vid_base::NoMem;
 
-// More bytes at the end, for which there is room.
+/// More bytes at the end, for which there is room.
 fn add(out: &mut Vec<u8>, bytes: &[u8])
     requires { vec_len out.old + length bytes.now ≤ vec_capacity out.old }
     ensures items { out.new.items ≡ out.old.items ++ bytes.now }
@@ -17,7 +17,7 @@ fn add(out: &mut Vec<u8>, bytes: &[u8])
     let _ = out.extend_from_slice(bytes);
 }
 
-// The last four fields in the bits of one number; the reserved bits are 0.
+/// The last four fields in the bits of one number; the reserved bits are 0.
 fn last_fields(ident: &Ident) -> u16
     ensures { result ≡ ident.now.qual * 2 ^ 10 + ident.now.shift * 2 ^ 5 + ident.now.pf * 2 ^ 3 }
 {

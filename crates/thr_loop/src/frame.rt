@@ -39,7 +39,7 @@ impl Blocks<'_> {
         self.flags[self.geom.place(Block { pli, col, row }) as usize]
     }
 
-    // Whether the plane has the block and it is not coded.
+    /// Whether the plane has the block and it is not coded.
     fn is_uncoded(&self, col: u32, row: u32) -> bool
         ensures { result ≡ is_uncoded (is_coded self.now.geom.now self.now.flags.now self.now.pli) self.now.columns self.now.rows (cell col row) }
     {
@@ -47,7 +47,7 @@ impl Blocks<'_> {
     }
 }
 
-// Filters the edge to the left of a block where the test holds.
+/// Filters the edge to the left of a block where the test holds.
 fn filter_left_if(plane: &mut Plane, test: bool, col: u32, row: u32, limit: u8)
     requires sized { IsPicture plane.old }
     requires column { IsTrue test → 0 < col }
@@ -63,7 +63,7 @@ fn filter_left_if(plane: &mut Plane, test: bool, col: u32, row: u32, limit: u8)
     }
 }
 
-// Filters the edge below a block where the test holds.
+/// Filters the edge below a block where the test holds.
 fn filter_lower_if(plane: &mut Plane, test: bool, col: u32, row: u32, limit: u8)
     requires sized { IsPicture plane.old }
     requires row { IsTrue test → 0 < row }
@@ -79,7 +79,7 @@ fn filter_lower_if(plane: &mut Plane, test: bool, col: u32, row: u32, limit: u8)
     }
 }
 
-// Filters the edges of a block.
+/// Filters the edges of a block.
 fn filter_block(plane: &mut Plane, blocks: &Blocks<'_>, col: u32, row: u32, limit: u8)
     requires column { col < blocks.now.columns }
     requires row { row < blocks.now.rows }
@@ -100,7 +100,7 @@ fn filter_block(plane: &mut Plane, blocks: &Blocks<'_>, col: u32, row: u32, limi
     filter_lower_if(plane, blocks.is_uncoded(col, row + 1), col, row + 1, limit);
 }
 
-// Filters the edges of a row of blocks.
+/// Filters the edges of a row of blocks.
 fn filter_row(plane: &mut Plane, blocks: &Blocks<'_>, row: u32, limit: u8)
     requires row { row < blocks.now.rows }
     requires sized { IsPicture plane.old }
@@ -116,7 +116,7 @@ fn filter_row(plane: &mut Plane, blocks: &Blocks<'_>, row: u32, limit: u8)
     }
 }
 
-// Filters the edges of all rows of blocks.
+/// Filters the edges of all rows of blocks.
 fn filter_rows(plane: &mut Plane, blocks: &Blocks<'_>, limit: u8)
     requires sized { IsPicture plane.old }
     requires wide { plane.old.width ≡ 8 * blocks.now.columns }
@@ -130,7 +130,7 @@ fn filter_rows(plane: &mut Plane, blocks: &Blocks<'_>, limit: u8)
     }
 }
 
-// Filters the edges of a plane.
+/// Filters the edges of a plane.
 fn filter_plane(plane: &mut Plane, geom: &Geom, flags: &[bool], pli: u8, limit: u8)
     requires plane { pli < 3 }
     requires sized { IsPlaneOf geom.now pli plane.old }

@@ -19,7 +19,7 @@ pub struct Sides {
     pub behind: [u8; 8],
 }
 
-// The response of a line and 256, so that it isn't below 0.
+/// The response of a line and 256, so that it isn't below 0.
 fn raised_response(p0: u8, p1: u8, p2: u8, p3: u8) -> u16
     ensures value { pos result ≡ response p0 p1 p2 p3 +ℤ pos 256 }
     ensures low { 128 ≤ result }
@@ -30,7 +30,7 @@ fn raised_response(p0: u8, p1: u8, p2: u8, p3: u8) -> u16
     (up + 2052 - down) / 8
 }
 
-// What the limit leaves of a response's size.
+/// What the limit leaves of a response's size.
 fn kept(size: u16, limit: u8) -> u8
     requires size { size ≤ 128 }
     requires limit { limit < 128 }
@@ -40,7 +40,7 @@ fn kept(size: u16, limit: u8) -> u8
     size.min(twice.saturating_sub(size)) as u8
 }
 
-// How far the sample before the edge rises and the one behind it falls.
+/// How far the sample before the edge rises and the one behind it falls.
 fn rise(raised: u16, limit: u8) -> u8
     requires high { raised ≤ 384 }
     requires limit { limit < 128 }
@@ -49,7 +49,7 @@ fn rise(raised: u16, limit: u8) -> u8
     kept(raised.saturating_sub(256), limit)
 }
 
-// How far the sample before the edge falls and the one behind it rises.
+/// How far the sample before the edge falls and the one behind it rises.
 fn fall(raised: u16, limit: u8) -> u8
     requires low { 128 ≤ raised }
     requires limit { limit < 128 }

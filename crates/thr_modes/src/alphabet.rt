@@ -26,7 +26,7 @@ static ALPHABETS: [[u8; 8]; 6] = [
     [0, 5, 3, 4, 2, 1, 6, 7],
 ];
 
-// The ranks of modes 0 to 7.
+/// The ranks of modes 0 to 7.
 #[tactic(auto, using(crate::proofs::EachLemmas::item_more, crate::proofs::EachLemmas::item_fault, crate::proofs::EachLemmas::items_done))]
 fn read_ranks(r: &mut BitReader) -> Result<[u8; 8], PacketFault>
     ensures value { Gives (λ ranks. ranks) result r.new.left (items (field 3) 8 r.old.left) }
@@ -39,7 +39,7 @@ fn read_ranks(r: &mut BitReader) -> Result<[u8; 8], PacketFault>
     Ok(ranks)
 }
 
-// Where a rank stands.
+/// Where a rank stands.
 fn place_of(ranks: &[u8], rank: u8) -> Option<usize>
     ensures value { result ≡ position (λ other. other == rank) ranks.now }
     ensures within { IfSome result (λ place. place < length ranks.now) }
@@ -47,7 +47,7 @@ fn place_of(ranks: &[u8], rank: u8) -> Option<usize>
     ranks.iter().position(|other| *other == rank)
 }
 
-// The mode that has a rank, or 8.
+/// The mode that has a rank, or 8.
 fn mode_with(ranks: &[u8; 8], rank: u8) -> u8
     ensures { result ≡ mode_with ranks.now rank }
 {
@@ -57,14 +57,14 @@ fn mode_with(ranks: &[u8; 8], rank: u8) -> u8
     }
 }
 
-// Whether a rank is missing.
+/// Whether a rank is missing.
 fn has_gap(alphabet: &[u8]) -> bool
     ensures { result ≡ list_any (λ mode. mode == 8) alphabet.now }
 {
     alphabet.iter().any(|mode| *mode == 8)
 }
 
-// The modes by rank. A rank that is missing is seen when all eight were read.
+/// The modes by rank. A rank that is missing is seen when all eight were read.
 #[tactic(auto, unfolding(crate::specs::Modes::own_alphabet))]
 fn read_alphabet(r: &mut BitReader) -> Result<[u8; 8], PacketFault>
     ensures value { Gives (λ alphabet. alphabet) result r.new.left (own_alphabet r.old.left) }
@@ -101,7 +101,7 @@ pub fn read_coding(r: &mut BitReader, scheme: u32) -> Result<ModeCoding, PacketF
     }
 }
 
-// A rank: bits 1 and a bit 0, or seven bits 1.
+/// A rank: bits 1 and a bit 0, or seven bits 1.
 #[tactic(auto, using(crate::proofs::RankLemmas::rank_one, crate::proofs::RankLemmas::rank_fault, crate::proofs::RankLemmas::rank_zero, crate::proofs::RankLemmas::rank_seven))]
 fn read_rank(r: &mut BitReader) -> Result<usize, PacketFault>
     ensures value { Gives (λ rank. rank) result r.new.left (rank_in 7 r.old.left) }

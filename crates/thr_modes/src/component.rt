@@ -16,7 +16,7 @@ pub enum VectorCoding {
     Fixed,
 }
 
-// A size with its sign.
+/// A size with its sign.
 #[tactic(auto, unfolding(crate::specs::Vectors::signed))]
 fn signed(negative: bool, size: u8) -> i8
     requires { size < 32 }
@@ -26,7 +26,7 @@ fn signed(negative: bool, size: u8) -> i8
     if negative { -(size as i8) } else { size as i8 }
 }
 
-// A component whose size is counted from the least one by so many bits, with its sign behind them.
+/// A component whose size is counted from the least one by so many bits, with its sign behind them.
 #[tactic(auto, unfolding(crate::specs::Vectors::sized, vid_base::specs::Reading::one_bit))]
 fn read_sized(r: &mut BitReader, least: u8, width: u32) -> Result<i8, PacketFault>
     requires width { width ≤ 5 }
@@ -39,7 +39,7 @@ fn read_sized(r: &mut BitReader, least: u8, width: u32) -> Result<i8, PacketFaul
     Ok(signed(r.bit()?, size))
 }
 
-// A component under MVMODE 0.
+/// A component under MVMODE 0.
 #[tactic(auto, unfolding(crate::specs::Vectors::prefixed))]
 fn read_prefixed(r: &mut BitReader) -> Result<i8, PacketFault>
     ensures value { Gives (λ component. component) result r.new.left (prefixed r.old.left) }
@@ -58,7 +58,7 @@ fn read_prefixed(r: &mut BitReader) -> Result<i8, PacketFault>
     }
 }
 
-// A component.
+/// A component.
 #[tactic(auto, unfolding(crate::specs::Vectors::component))]
 fn read_component(r: &mut BitReader, coding: VectorCoding) -> Result<i8, PacketFault>
     ensures value { Gives (λ component. component) result r.new.left (component (vector_form coding) r.old.left) }
@@ -90,7 +90,7 @@ pub fn write_bit(w: &mut BitWriter, bit: bool) -> Result<(), NoMem>
     w.put(u32::from(bit), 1)
 }
 
-// A component in 5 bits and a sign.
+/// A component in 5 bits and a sign.
 #[tactic(auto, unfolding(crate::specs::WrittenVectors::component_code))]
 fn write_component(w: &mut BitWriter, component: i8) -> Result<(), NoMem>
     requires { IsComponent component }

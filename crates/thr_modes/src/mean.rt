@@ -6,7 +6,7 @@ ghost use Rattle.thr_modes.specs.Motion.{mean};
 
 use vid_base::{Vector, round_half_out};
 
-// The sum of two components.
+/// The sum of two components.
 fn sum_of(a: i8, b: i8) -> i32
     requires a { IsComponent a }
     requires b { IsComponent b }
@@ -17,7 +17,7 @@ fn sum_of(a: i8, b: i8) -> i32
     i32::from(a) + i32::from(b)
 }
 
-// The mean of two components, from their sum.
+/// The mean of two components, from their sum.
 fn half_of(sum: i32) -> i8
     requires least { negsuc 61 ≤ℤ sum }
     requires most { sum ≤ℤ pos 62 }
@@ -27,7 +27,7 @@ fn half_of(sum: i32) -> i8
     round_half_out(sum, 2) as i8
 }
 
-// The mean of four components, from their sum.
+/// The mean of four components, from their sum.
 fn quarter_of(sum: i32) -> i8
     requires least { negsuc 123 ≤ℤ sum }
     requires most { sum ≤ℤ pos 124 }
@@ -37,7 +37,7 @@ fn quarter_of(sum: i32) -> i8
     round_half_out(sum, 4) as i8
 }
 
-// The mean of four components.
+/// The mean of four components.
 fn component_of_four(a: i8, b: i8, c: i8, d: i8) -> i8
     requires a { IsComponent a }
     requires b { IsComponent b }

@@ -15,14 +15,14 @@ use crate::luma::luma_flags;
 use vid_base::{BitReader, BitWriter, NoMem, PacketFault, Refusal};
 use vid_geom::Geom;
 
-// Whether one of the four is coded.
+/// Whether one of the four is coded.
 fn some_coded(luma: [bool; 4]) -> bool
     ensures { result ≡ some_coded luma }
 {
     luma[0] || luma[1] || luma[2] || luma[3]
 }
 
-// The mode of a macro block whose luma blocks have these flags.
+/// The mode of a macro block whose luma blocks have these flags.
 #[tactic(auto, unfolding(crate::specs::Modes::macro_mode))]
 fn read_macro_mode(
     r: &mut BitReader,
@@ -39,7 +39,7 @@ fn read_macro_mode(
     }
 }
 
-// The modes of all macro blocks, behind the scheme.
+/// The modes of all macro blocks, behind the scheme.
 #[tactic(auto, using(crate::proofs::EachLemmas::each_more, crate::proofs::EachLemmas::each_fault, crate::proofs::EachLemmas::each_done, crate::proofs::LumaLemmas::flags_long))]
 fn read_macro_modes(
     r: &mut BitReader,
@@ -109,7 +109,7 @@ pub fn read_modes(
     Ok(read?)
 }
 
-// The mode of a macro block whose luma blocks have these flags.
+/// The mode of a macro block whose luma blocks have these flags.
 #[tactic(auto, unfolding(crate::specs::Written::mode_code))]
 fn write_macro_mode(w: &mut BitWriter, luma: [bool; 4], mode: u8) -> Result<(), NoMem>
     requires { mode < 8 }
@@ -122,7 +122,7 @@ fn write_macro_mode(w: &mut BitWriter, luma: [bool; 4], mode: u8) -> Result<(), 
     Ok(())
 }
 
-// The modes of all macro blocks.
+/// The modes of all macro blocks.
 #[tactic(auto, using(crate::proofs::WrittenModes::written_more, crate::proofs::WrittenModes::written_all, crate::proofs::WrittenModes::memory_more, crate::proofs::LumaLemmas::flags_long))]
 fn write_macro_modes(
     w: &mut BitWriter,

@@ -16,7 +16,7 @@ pub const STILL: Vector = Vector { x: 0, y: 0 };
 /// The mode in which a macro block has a vector of its own, which is remembered.
 pub const INTER_MV: u8 = 2;
 
-// Those in which it has LAST1 or LAST2.
+/// Those in which it has LAST1 or LAST2.
 const INTER_MV_LAST: u8 = 3;
 
 const INTER_MV_LAST2: u8 = 4;
@@ -42,7 +42,7 @@ pub struct Remembered {
     pub last2: Vector,
 }
 
-// The vectors of the chroma blocks, from those of the luma blocks.
+/// The vectors of the chroma blocks, from those of the luma blocks.
 #[tactic(auto, unfolding(crate::specs::Motion::chroma_of))]
 fn chroma_of(pf: u8, luma: [Vector; 4]) -> [Vector; 4]
     ensures { take (chroma_count pf) (map offset_of result) ≡ chroma_of pf (map offset_of luma) }
@@ -58,7 +58,7 @@ fn chroma_of(pf: u8, luma: [Vector; 4]) -> [Vector; 4]
     }
 }
 
-// One vector for all blocks.
+/// One vector for all blocks.
 #[tactic(auto, unfolding(crate::specs::Motion::same_motion, crate::specs::Views::motion_of))]
 fn same_motion(vector: Vector) -> MacroVectors
     ensures { (pf : ℕ) → motion_of pf result ≡ same_motion pf (offset_of vector) }
@@ -69,7 +69,7 @@ fn same_motion(vector: Vector) -> MacroVectors
     }
 }
 
-// A vector for each luma block.
+/// A vector for each luma block.
 #[tactic(auto, unfolding(crate::specs::Motion::own_motion, crate::specs::Views::motion_of))]
 fn own_motion(pf: u8, luma: [Vector; 4]) -> MacroVectors
     ensures { motion_of pf result ≡ own_motion pf (map offset_of luma) }
@@ -80,7 +80,7 @@ fn own_motion(pf: u8, luma: [Vector; 4]) -> MacroVectors
     }
 }
 
-// The vector of a luma block that may have one of its own.
+/// The vector of a luma block that may have one of its own.
 #[tactic(auto, unfolding(crate::specs::Motion::own_vector, crate::specs::Vectors::offset_of))]
 fn read_own_vector(
     r: &mut BitReader,
@@ -97,7 +97,7 @@ fn read_own_vector(
     }
 }
 
-// Those of the luma blocks of a macro block.
+/// Those of the luma blocks of a macro block.
 fn read_own_vectors(
     r: &mut BitReader,
     coding: VectorCoding,
@@ -113,7 +113,7 @@ fn read_own_vectors(
     Ok(vectors)
 }
 
-// The vector of the last coded block; another one where none is coded.
+/// The vector of the last coded block; another one where none is coded.
 fn last_coded(luma: [bool; 4], vectors: [Vector; 4], other: Vector) -> Vector
     ensures { offset_of result ≡ last_coded luma (map offset_of vectors) (offset_of other) }
 {
@@ -138,7 +138,7 @@ impl Remembered {
         }
     }
 
-    // LAST1 becomes LAST2, and a vector becomes LAST1.
+    /// LAST1 becomes LAST2, and a vector becomes LAST1.
     #[tactic(auto, unfolding(crate::specs::Motion::after, crate::specs::Views::memory_of))]
     fn after(self, vector: Vector) -> Remembered
         ensures { memory_of result ≡ after (offset_of vector) (memory_of self) }
@@ -149,7 +149,7 @@ impl Remembered {
         }
     }
 
-    // They change places.
+    /// They change places.
     #[tactic(auto, unfolding(crate::specs::Motion::exchanged, crate::specs::Views::memory_of))]
     fn exchanged(self) -> Remembered
         ensures { memory_of result ≡ exchanged (memory_of self) }

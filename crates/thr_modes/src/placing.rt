@@ -9,7 +9,7 @@ use crate::motion::MacroVectors;
 use vid_base::Vector;
 use vid_geom::MacroBlock;
 
-// Each value in the place that stands beside it.
+/// Each value in the place that stands beside it.
 fn put_at(vectors: &mut [Vector], places: &[u32], values: &[Vector])
     requires places { All (λ place. place < length vectors.old) places.now }
     requires values { length values.now ≡ length places.now }

@@ -14,7 +14,7 @@ use crate::placing::put_motion;
 use vid_base::{BitReader, PacketFault, Refusal, Vector};
 use vid_geom::Geom;
 
-// How vectors are coded under MVMODE.
+/// How vectors are coded under MVMODE.
 #[tactic(auto, unfolding(crate::specs::Motion::vector_coding))]
 fn vector_coding(mvmode: bool) -> VectorCoding
     ensures { vector_form result ≡ vector_coding mvmode }
@@ -26,7 +26,7 @@ fn vector_coding(mvmode: bool) -> VectorCoding
     }
 }
 
-// The vectors of all blocks, behind MVMODE.
+/// The vectors of all blocks, behind MVMODE.
 fn read_coded_vectors(
     r: &mut BitReader,
     coding: VectorCoding,

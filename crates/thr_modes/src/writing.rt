@@ -16,7 +16,7 @@ use crate::motion::{INTER_GOLDEN_MV, INTER_MV, INTER_MV_FOUR};
 use vid_base::{BitWriter, NoMem, Vector};
 use vid_geom::Geom;
 
-// The vectors at four places.
+/// The vectors at four places.
 fn vectors_at(vectors: &[Vector], places: [u32; 4]) -> [Vector; 4]
     requires { All (λ place. place < length vectors.now) places }
     ensures { map offset_of result ≡ map (λ place. get_or (map offset_of vectors.now) place still) places }
@@ -29,7 +29,7 @@ fn vectors_at(vectors: &[Vector], places: [u32; 4]) -> [Vector; 4]
     ]
 }
 
-// The vector of a luma block, if it is coded.
+/// The vector of a luma block, if it is coded.
 fn write_own_vector(w: &mut BitWriter, coded: bool, vector: Vector) -> Result<(), NoMem>
     ensures written { OnOk result (w.new ≡ w.old ++ (if coded then vector_code (offset_of vector) else [])) }
     ensures memory { OnErr result (Grows w.old w.new) }
@@ -40,7 +40,7 @@ fn write_own_vector(w: &mut BitWriter, coded: bool, vector: Vector) -> Result<()
     Ok(())
 }
 
-// Those of the coded luma blocks of a macro block.
+/// Those of the coded luma blocks of a macro block.
 fn write_own_vectors(w: &mut BitWriter, luma: [bool; 4], vectors: [Vector; 4]) -> Result<(), NoMem>
     ensures written { OnOk result (w.new ≡ w.old ++ own_codes luma (map offset_of vectors)) }
     ensures memory { OnErr result (Grows w.old w.new) }
@@ -51,7 +51,7 @@ fn write_own_vectors(w: &mut BitWriter, luma: [bool; 4], vectors: [Vector; 4]) -
     Ok(())
 }
 
-// The vectors of a macro block that its mode wants.
+/// The vectors of a macro block that its mode wants.
 #[tactic(auto, unfolding(crate::specs::WrittenVectors::motion_code))]
 fn write_motion(
     w: &mut BitWriter,
@@ -69,7 +69,7 @@ fn write_motion(
     }
 }
 
-// Those of all macro blocks.
+/// Those of all macro blocks.
 #[tactic(auto, using(crate::proofs::WrittenModes::memory_more, crate::proofs::LumaLemmas::flags_long))]
 fn write_motions(
     w: &mut BitWriter,

@@ -30,35 +30,35 @@ pub fn limits_fit_a_header(limits: &Limits)
     ensures { IsLimits limits.now.of }
 {}
 
-// Words have 16 bits.
+/// Words have 16 bits.
 fn words_are_small(numbers: &[u16])
     ensures { All (λ v. v < 2 ^ 16) numbers.now }
 {
     let _len = numbers.len();
 }
 
-// Bytes have 8 bits.
+/// Bytes have 8 bits.
 fn bytes_are_small(numbers: &[u8])
     ensures { All (λ v. v < 2 ^ 8) numbers.now }
 {
     let _len = numbers.len();
 }
 
-// Scales are.
+/// Scales are.
 fn scales_fit_a_header(scales: &[u16; 64])
     ensures { AreScales scales.now }
 {
     words_are_small(scales);
 }
 
-// A base matrix is.
+/// A base matrix is.
 fn matrix_fits_a_header(matrix: &[u8; 64])
     ensures { IsBaseMatrix matrix.now }
 {
     bytes_are_small(matrix);
 }
 
-// Base matrices are.
+/// Base matrices are.
 fn matrices_fit_a_header(matrices: &[[u8; 64]])
     ensures { All IsBaseMatrix matrices.now }
 {
@@ -67,7 +67,7 @@ fn matrices_fit_a_header(matrices: &[[u8; 64]])
     }
 }
 
-// Ranges of three planes are whole.
+/// Ranges of three planes are whole.
 fn ranges_are_whole(ranges: &[Ranges; 3])
     ensures planes { length ranges.now ≡ 3 }
     ensures whole { All (λ own. AreWhole own.list) ranges.now }

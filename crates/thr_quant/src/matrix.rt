@@ -9,7 +9,7 @@ use crate::{Ramps, Ranges};
 /// The greatest entry of a matrix.
 const GREATEST: u32 = 4096;
 
-// A range where it stands: the quantiser indices at its ends, and the base matrices there.
+/// A range where it stands: the quantiser indices at its ends, and the base matrices there.
 #[derive(Clone, Copy)]
 struct Stretch {
     first: u8,
@@ -18,7 +18,7 @@ struct Stretch {
     to: u16,
 }
 
-// The first range that holds a quantiser index.
+/// The first range that holds a quantiser index.
 fn stretch_at(ranges: &Ranges, qi: u8) -> Stretch
     requires { qi < 64 }
     ensures value { find (holds qi) (stretches_of ranges.now) ≡ Some (seen result) }
@@ -46,7 +46,7 @@ fn stretch_at(ranges: &Ranges, qi: u8) -> Stretch
     unreachable!()
 }
 
-// The value at a quantiser index of a range that has a at its first index and b at its last.
+/// The value at a quantiser index of a range that has a at its first index and b at its last.
 #[tactic(auto, unfolding(crate::specs::Matrix::between))]
 fn value_between(stretch: Stretch, qi: u8, a: u8, b: u8) -> u32
     requires holds { (stretch.first ≤ qi) × (qi ≤ stretch.last) }
@@ -60,7 +60,7 @@ fn value_between(stretch: Stretch, qi: u8, a: u8, b: u8) -> u32
     (2 * to_last * u32::from(a) + 2 * from_first * u32::from(b) + size) / (2 * size)
 }
 
-// The least entry at a place.
+/// The least entry at a place.
 fn least_entry(qti: u8, k: usize) -> u32
     ensures { result ≡ least qti k }
 {
@@ -72,7 +72,7 @@ fn least_entry(qti: u8, k: usize) -> u32
     }
 }
 
-// The entry of a base value.
+/// The entry of a base value.
 #[tactic(auto, unfolding(crate::specs::Matrix::scaled))]
 fn scaled_entry(scale: u16, base: u32, least: u32) -> u16
     requires base { base ≤ 32161 }
@@ -84,7 +84,7 @@ fn scaled_entry(scale: u16, base: u32, least: u32) -> u16
 }
 
 impl Ramps {
-    // The ranges of a kind of block in a plane.
+    /// The ranges of a kind of block in a plane.
     #[tactic(auto, unfolding(crate::specs::Matrix::ranges_at))]
     fn ranges_at(&self, qti: u8, pli: u8) -> &Ranges
         requires { pli < 3 }
@@ -98,7 +98,7 @@ impl Ramps {
         }
     }
 
-    // The scale at a place.
+    /// The scale at a place.
     #[tactic(auto, unfolding(crate::specs::Matrix::scale_at))]
     fn scale_at(&self, qi: u8, k: usize) -> u16
         requires { qi < 64 }
@@ -111,7 +111,7 @@ impl Ramps {
         }
     }
 
-    // The matrix at a quantiser index that a range holds.
+    /// The matrix at a quantiser index that a range holds.
     fn matrix_on(&self, qti: u8, qi: u8, stretch: Stretch) -> [u16; 64]
         requires index { qi < 64 }
         requires holds { (stretch.first ≤ qi) × (qi ≤ stretch.last) }

@@ -7,7 +7,7 @@ ghost use Rattle.thr_quant.specs.Limits.{width_of};
 
 use vid_base::{BitReader, BitWriter, Ended, NoMem, ilog};
 
-// Reads 64 numbers of that many bits, at most 8.
+/// Reads 64 numbers of that many bits, at most 8.
 pub fn read_bytes(r: &mut BitReader, width: u32) -> Result<[u8; 64], Ended>
     requires { width ≤ 8 }
     ensures value { GivesOrEnded (λ numbers. numbers) result r.new.left (items (field width) 64 r.old.left) }
@@ -21,7 +21,7 @@ pub fn read_bytes(r: &mut BitReader, width: u32) -> Result<[u8; 64], Ended>
     Ok(numbers)
 }
 
-// Reads 64 numbers of that many bits, at most 16.
+/// Reads 64 numbers of that many bits, at most 16.
 pub fn read_words(r: &mut BitReader, width: u32) -> Result<[u16; 64], Ended>
     requires { width ≤ 16 }
     ensures value { GivesOrEnded (λ numbers. numbers) result r.new.left (items (field width) 64 r.old.left) }
@@ -34,7 +34,7 @@ pub fn read_words(r: &mut BitReader, width: u32) -> Result<[u16; 64], Ended>
     Ok(numbers)
 }
 
-// Puts numbers of that many bits, at most 8.
+/// Puts numbers of that many bits, at most 8.
 pub fn put_bytes(w: &mut BitWriter, numbers: &[u8], width: u32) -> Result<(), NoMem>
     requires width { width ≤ 8 }
     requires small { All (λ v. v < 2 ^ width) numbers.now }
@@ -47,7 +47,7 @@ pub fn put_bytes(w: &mut BitWriter, numbers: &[u8], width: u32) -> Result<(), No
     Ok(())
 }
 
-// The least width in bits that holds all of these numbers.
+/// The least width in bits that holds all of these numbers.
 pub fn width_of_bytes(numbers: &[u8; 64]) -> u32
     ensures value { result ≡ width_of numbers.now }
     ensures small { All (λ v. v < 2 ^ result) numbers.now }
@@ -60,7 +60,7 @@ pub fn width_of_bytes(numbers: &[u8; 64]) -> u32
     ilog(u32::from(greatest))
 }
 
-// Puts numbers of that many bits, at most 16.
+/// Puts numbers of that many bits, at most 16.
 pub fn put_words(w: &mut BitWriter, numbers: &[u16], width: u32) -> Result<(), NoMem>
     requires width { width ≤ 16 }
     requires small { All (λ v. v < 2 ^ width) numbers.now }
@@ -73,7 +73,7 @@ pub fn put_words(w: &mut BitWriter, numbers: &[u16], width: u32) -> Result<(), N
     Ok(())
 }
 
-// The least width in bits that holds all of these numbers.
+/// The least width in bits that holds all of these numbers.
 pub fn width_of_words(numbers: &[u16; 64]) -> u32
     ensures value { result ≡ width_of numbers.now }
     ensures bound { result ≤ 16 }

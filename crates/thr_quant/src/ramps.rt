@@ -38,7 +38,7 @@ impl Model for Ramps {
     ghost invariant = { λ r. AreComplete (vec_len r.matrices) r.intra r.inter };
 }
 
-// The same ranges of three planes.
+/// The same ranges of three planes.
 fn copied(ranges: &[Ranges; 3]) -> [Ranges; 3]
     ensures { result ≡ ranges.now }
 {
@@ -65,7 +65,7 @@ impl Clone for Ramps {
 ghost use Rattle.thr_quant.specs.Ramps.{base_matrix_of, matrices_front, matrices_of, pair_of, pairs_of, ramps_front, ramps_of, scales_of};
 ghost use Rattle.thr_quant.specs.Ranges.{IsMatrixCount, NameMatrices};
 
-// 64 scales.
+/// 64 scales.
 #[tactic(auto, unfolding(crate::specs::Ramps::scales_of))]
 fn read_scales(r: &mut BitReader) -> Result<[u16; 64], Ended>
     ensures value { GivesOrEnded (λ scales. scales) result r.new.left (scales_of r.old.left) }
@@ -75,7 +75,7 @@ fn read_scales(r: &mut BitReader) -> Result<[u16; 64], Ended>
     read_words(r, width)
 }
 
-// So many base matrices.
+/// So many base matrices.
 fn read_list(alloc: Global, r: &mut BitReader, count: u32) -> Result<Vec<[u8; 64]>, Refusal>
     ensures value { GivesOrNoMem (λ list. list.items) result r.new.left (items base_matrix_of count r.old.left) }
     ensures count { IfOk result (λ list. vec_len list ≡ count) }
@@ -89,7 +89,7 @@ fn read_list(alloc: Global, r: &mut BitReader, count: u32) -> Result<Vec<[u8; 64
     Ok(list)
 }
 
-// Base matrices behind their number.
+/// Base matrices behind their number.
 #[tactic(auto, unfolding(crate::specs::Ramps::matrices_of, crate::specs::Ramps::matrices_front))]
 fn read_matrices(alloc: Global, r: &mut BitReader) -> Result<Vec<[u8; 64]>, Refusal>
     ensures value { GivesOrNoMem (λ list. list.items) result r.new.left (matrices_of r.old.left) }
@@ -104,7 +104,7 @@ fn read_matrices(alloc: Global, r: &mut BitReader) -> Result<Vec<[u8; 64]>, Refu
     read_list(alloc, r, count)
 }
 
-// The ranges of intra blocks in a plane behind another.
+/// The ranges of intra blocks in a plane behind another.
 #[tactic(auto, unfolding(crate::specs::Ramps::pair_of, crate::specs::Ramps::copy_of))]
 fn read_intra(r: &mut BitReader, count: u32, before: &Ranges) -> Result<Ranges, PacketFault>
     requires count { IsMatrixCount count }
@@ -120,7 +120,7 @@ fn read_intra(r: &mut BitReader, count: u32, before: &Ranges) -> Result<Ranges, 
     }
 }
 
-// The ranges of inter blocks in a plane, of which the intra ranges are given too.
+/// The ranges of inter blocks in a plane, of which the intra ranges are given too.
 #[tactic(auto, unfolding(crate::specs::Ramps::pair_of, crate::specs::Ramps::copy_of))]
 fn read_inter(
     r: &mut BitReader,
@@ -144,7 +144,7 @@ fn read_inter(
     }
 }
 
-// The ranges of intra and of inter blocks in all three planes.
+/// The ranges of intra and of inter blocks in all three planes.
 #[tactic(auto, unfolding(crate::specs::Ramps::pairs_of))]
 fn read_pairs(r: &mut BitReader, count: u32) -> Result<([Ranges; 3], [Ranges; 3]), PacketFault>
     requires count { IsMatrixCount count }
@@ -162,7 +162,7 @@ fn read_pairs(r: &mut BitReader, count: u32) -> Result<([Ranges; 3], [Ranges; 3]
     Ok(([intra_y, intra_cb, intra_cr], [inter_y, inter_cb, inter_cr]))
 }
 
-// The quantisers in the order in which they stand.
+/// The quantisers in the order in which they stand.
 #[tactic(auto, unfolding(crate::specs::Ramps::ramps_of, crate::specs::Ramps::ramps_front))]
 fn read_fields(alloc: Global, r: &mut BitReader) -> Result<Ramps, Refusal>
     ensures value { GivesOrNoMem (λ ramps. ramps) result r.new.left (ramps_of r.old.left) }

@@ -39,7 +39,7 @@ impl Model for Ranges {
 }
 
 impl Ranges {
-    // The same ranges. They fit, since the capacity is the same.
+    /// The same ranges. They fit, since the capacity is the same.
     pub(crate) fn copy(&self) -> Ranges
         ensures { result ≡ self.now }
     {
@@ -66,7 +66,7 @@ impl Clone for Ranges {
 ghost use Rattle.std.specs.List.{All};
 ghost use Rattle.thr_quant.specs.Ranges.{AreWhole, IsMatrixCount, NameMatrices, list_of, matrix_index_of, range_of, ranges_of};
 
-// The index of one of so many base matrices.
+/// The index of one of so many base matrices.
 #[tactic(auto, unfolding(crate::specs::Ranges::matrix_index_of))]
 fn read_matrix_index(r: &mut BitReader, count: u32) -> Result<u16, PacketFault>
     requires count { IsMatrixCount count }
@@ -81,7 +81,7 @@ fn read_matrix_index(r: &mut BitReader, count: u32) -> Result<u16, PacketFault>
     Ok(index as u16)
 }
 
-// A range among so many steps that are left.
+/// A range among so many steps that are left.
 #[tactic(auto, unfolding(crate::specs::Ranges::range_of))]
 fn read_range(r: &mut BitReader, count: u32, left: u8) -> Result<Range, PacketFault>
     requires count { IsMatrixCount count }
@@ -99,7 +99,7 @@ fn read_range(r: &mut BitReader, count: u32, left: u8) -> Result<Range, PacketFa
     Ok(Range { size, next })
 }
 
-// Ranges until no step is left.
+/// Ranges until no step is left.
 fn read_list(r: &mut BitReader, count: u32) -> Result<ArrayVec<Range, 63>, PacketFault>
     requires count { IsMatrixCount count }
     ensures value { Gives (λ list. list.items) result r.new.left (list_of 63 count 63 r.old.left) }

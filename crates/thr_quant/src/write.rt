@@ -28,7 +28,7 @@ pub fn write_limits(w: &mut BitWriter, limits: &Limits) -> Result<(), NoMem>
     put_bytes(w, &limits.of, width)
 }
 
-// Writes scales in the least width that holds all of them, 1 bit at least.
+/// Writes scales in the least width that holds all of them, 1 bit at least.
 #[tactic(auto, unfolding(crate::specs::Ramps::scales_bits))]
 fn write_scales(w: &mut BitWriter, scales: &[u16; 64]) -> Result<(), NoMem>
     ensures written { OnOk result (w.new ≡ w.old ++ scales_bits scales.now) }
@@ -39,7 +39,7 @@ fn write_scales(w: &mut BitWriter, scales: &[u16; 64]) -> Result<(), NoMem>
     put_words(w, scales, width)
 }
 
-// Writes the index of one of so many base matrices.
+/// Writes the index of one of so many base matrices.
 fn write_matrix_index(w: &mut BitWriter, count: u32, index: u16) -> Result<(), NoMem>
     requires count { IsMatrixCount count }
     requires named { index < count }
@@ -49,7 +49,7 @@ fn write_matrix_index(w: &mut BitWriter, count: u32, index: u16) -> Result<(), N
     w.put(u32::from(index), ilog(count - 1))
 }
 
-// Writes a range among so many steps that are left.
+/// Writes a range among so many steps that are left.
 #[tactic(auto, unfolding(crate::specs::Ranges::range_bits))]
 fn write_range(w: &mut BitWriter, count: u32, left: u8, range: Range) -> Result<(), NoMem>
     requires count { IsMatrixCount count }
@@ -63,7 +63,7 @@ fn write_range(w: &mut BitWriter, count: u32, left: u8, range: Range) -> Result<
     write_matrix_index(w, count, range.next)
 }
 
-// Writes ranges one behind the other.
+/// Writes ranges one behind the other.
 fn write_list(w: &mut BitWriter, count: u32, list: &[Range]) -> Result<(), NoMem>
     requires count { IsMatrixCount count }
     requires whole { AreWhole list.now }
@@ -79,7 +79,7 @@ fn write_list(w: &mut BitWriter, count: u32, list: &[Range]) -> Result<(), NoMem
     Ok(())
 }
 
-// Writes ranges that name base matrices out of so many.
+/// Writes ranges that name base matrices out of so many.
 #[tactic(auto, unfolding(crate::specs::Ranges::ranges_bits))]
 fn write_ranges(w: &mut BitWriter, count: u32, ranges: &Ranges) -> Result<(), NoMem>
     requires count { IsMatrixCount count }
@@ -91,7 +91,7 @@ fn write_ranges(w: &mut BitWriter, count: u32, ranges: &Ranges) -> Result<(), No
     write_list(w, count, &ranges.list)
 }
 
-// Writes the ranges of intra blocks in a plane behind another.
+/// Writes the ranges of intra blocks in a plane behind another.
 #[tactic(auto, unfolding(crate::specs::Ramps::pair_bits, vid_base::specs::Bits::digits))]
 fn write_intra(w: &mut BitWriter, count: u32, before: &Ranges, own: &Ranges) -> Result<(), NoMem>
     requires count { IsMatrixCount count }
@@ -106,7 +106,7 @@ fn write_intra(w: &mut BitWriter, count: u32, before: &Ranges, own: &Ranges) -> 
     write_ranges(w, count, own)
 }
 
-// Writes the ranges of inter blocks in a plane, of which the intra ranges are given too.
+/// Writes the ranges of inter blocks in a plane, of which the intra ranges are given too.
 #[tactic(auto, unfolding(crate::specs::Ramps::pair_bits, vid_base::specs::Bits::digits))]
 fn write_inter(
     w: &mut BitWriter,
@@ -130,7 +130,7 @@ fn write_inter(
     write_ranges(w, count, own)
 }
 
-// Writes a base matrix.
+/// Writes a base matrix.
 fn write_matrix(w: &mut BitWriter, matrix: &[u8; 64]) -> Result<(), NoMem>
     ensures written { OnOk result (w.new ≡ w.old ++ all_digits 8 matrix.now) }
     ensures memory { OnErr result ((more : List Bool) × (w.new ≡ w.old ++ more)) }
@@ -138,7 +138,7 @@ fn write_matrix(w: &mut BitWriter, matrix: &[u8; 64]) -> Result<(), NoMem>
     put_bytes(w, matrix, 8)
 }
 
-// Writes base matrices one behind the other.
+/// Writes base matrices one behind the other.
 fn write_matrix_list(w: &mut BitWriter, matrices: &[[u8; 64]]) -> Result<(), NoMem>
     ensures written { OnOk result (w.new ≡ w.old ++ matrix_list_bits matrices.now) }
     ensures memory { OnErr result ((more : List Bool) × (w.new ≡ w.old ++ more)) }
@@ -149,7 +149,7 @@ fn write_matrix_list(w: &mut BitWriter, matrices: &[[u8; 64]]) -> Result<(), NoM
     Ok(())
 }
 
-// Writes base matrices behind their number.
+/// Writes base matrices behind their number.
 #[tactic(auto, unfolding(crate::specs::Ramps::matrices_bits))]
 fn write_matrices(w: &mut BitWriter, matrices: &[[u8; 64]]) -> Result<(), NoMem>
     requires { IsMatrixCount (length matrices.now) }
@@ -160,7 +160,7 @@ fn write_matrices(w: &mut BitWriter, matrices: &[[u8; 64]]) -> Result<(), NoMem>
     write_matrix_list(w, matrices)
 }
 
-// Writes the ranges of intra and of inter blocks in all three planes.
+/// Writes the ranges of intra and of inter blocks in all three planes.
 fn write_pairs(
     w: &mut BitWriter,
     count: u32,

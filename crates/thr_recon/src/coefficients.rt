@@ -13,7 +13,7 @@ static ZIGZAG: [u8; 64] = [
     37, 47, 50, 56, 59, 61, 35, 36, 48, 49, 57, 58, 62, 63,
 ];
 
-// The coefficient at that place of the zigzag order times its entry, cut to 16 bits.
+/// The coefficient at that place of the zigzag order times its entry, cut to 16 bits.
 fn product(c: &[i16; 64], at: usize, factor: u16) -> i16
     requires { at < 64 }
     ensures { result ≡ product (entry c.now at) factor }
@@ -34,7 +34,7 @@ pub fn dequantise(c: &[i16; 64], dc: u16, ac: &[u16; 64]) -> [i16; 64]
     out
 }
 
-// The first coefficient times its entry, whole.
+/// The first coefficient times its entry, whole.
 fn whole_product(c: &[i16; 64], dc: u16) -> i64
     ensures value { result ≡ entry c.now 0 *ℤ pos dc }
     ensures low { negsuc 2147450879 ≤ℤ result }
@@ -43,7 +43,7 @@ fn whole_product(c: &[i16; 64], dc: u16) -> i64
     i64::from(c[0]) * i64::from(dc)
 }
 
-// Every residual of a block that has no coefficient behind the first.
+/// Every residual of a block that has no coefficient behind the first.
 fn short_residual(c: &[i16; 64], dc: u16) -> i16
     ensures { result ≡ short_residual (entry c.now 0) dc }
 {

@@ -6,7 +6,7 @@ use crate::predictor::Predictor;
 use vid_base::Vector;
 use vid_plane::Plane;
 
-// That many samples in a component's direction.
+/// That many samples in a component's direction.
 #[tactic(auto, unfolding(crate::specs::Predicted::signed))]
 fn signed(component: i8, size: u8) -> i32
     requires { size ≤ 16 }
@@ -18,7 +18,7 @@ fn signed(component: i8, size: u8) -> i32
     if component < 0 { -samples } else { samples }
 }
 
-// The whole samples of a component, which counts halves or quarters of one, rounded towards zero.
+/// The whole samples of a component, which counts halves or quarters of one, rounded towards zero.
 fn near_offset(component: i8, quarters: bool) -> i32
     requires low { negsuc 30 ≤ℤ component }
     requires high { component ≤ℤ pos 31 }
@@ -30,7 +30,7 @@ fn near_offset(component: i8, quarters: bool) -> i32
     signed(component, if quarters { size / 4 } else { size / 2 })
 }
 
-// And rounded away from zero.
+/// And rounded away from zero.
 fn far_offset(component: i8, quarters: bool) -> i32
     requires low { negsuc 30 ≤ℤ component }
     requires high { component ≤ℤ pos 31 }

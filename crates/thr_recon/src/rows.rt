@@ -6,7 +6,7 @@ ghost use Rattle.thr_recon.specs.Rebuilt.{sample_of, rebuilt, block_of};
 
 use std::simd::prelude::*;
 
-// The low bytes of eight numbers. A shuffle, since eight casts would not become one.
+/// The low bytes of eight numbers. A shuffle, since eight casts would not become one.
 fn low_bytes(row: [u16; 8]) -> [u8; 8]
     ensures { result ≡ map (λ u. slice_index row u % 256) (range_with_len 0 8) }
 {
@@ -17,7 +17,7 @@ fn low_bytes(row: [u16; 8]) -> [u8; 8]
         .to_array()
 }
 
-// The samples of a row as lanes of 16 bits.
+/// The samples of a row as lanes of 16 bits.
 fn wide(row: &[u8; 8]) -> u16x8
     ensures { result ≡ row.now }
 {
@@ -46,8 +46,8 @@ pub(crate) fn mean_block(a: &[[u8; 8]; 8], b: &[[u8; 8]; 8]) -> [[u8; 8]; 8]
     ]
 }
 
-// A predicted sample and its residual. The residual is bounded before the sum, which so fits 16 bits; what is cut off of it
-// would leave the range of samples in any case.
+/// A predicted sample and its residual. The residual is bounded before the sum, which so fits 16 bits; what is cut off of it
+/// would leave the range of samples in any case.
 fn rebuilt_sample(sample: u8, r: &[i16; 64], k: usize) -> u16
     requires { k < 64 }
     ensures value { result ≡ sample_of (pos sample +ℤ entry r.now k) }

@@ -14,10 +14,10 @@ use std::alloc::Global;
 use thr_quant::{Limits, Ramps, Range, Ranges};
 use vid_base::NoMem;
 
-// The last quantiser index.
+/// The last quantiser index.
 const LAST: u8 = 63;
 
-// Limits of the loop filter: a third of the steps to the last index.
+/// Limits of the loop filter: a third of the steps to the last index.
 fn import_limits() -> Limits
     ensures { result.of ≡ import_limits }
 {
@@ -28,7 +28,7 @@ fn import_limits() -> Limits
     Limits { of }
 }
 
-// Scales that fall by so much from one index to the next, to 10 at the last.
+/// Scales that fall by so much from one index to the next, to 10 at the last.
 fn even_scales(step: u16) -> [u16; 64]
     requires { step < 16 }
     ensures { result ≡ even_scales step }
@@ -40,7 +40,7 @@ fn even_scales(step: u16) -> [u16; 64]
     scales
 }
 
-// A base matrix that rises by 4 in each row and in each column.
+/// A base matrix that rises by 4 in each row and in each column.
 fn import_matrix() -> [u8; 64]
     ensures { result ≡ import_matrix }
 {
@@ -52,7 +52,7 @@ fn import_matrix() -> [u8; 64]
     matrix
 }
 
-// One range over all indices, with base matrix 0 at both ends.
+/// One range over all indices, with base matrix 0 at both ends.
 fn one_range() -> Ranges
     ensures { result ≡ one_range }
 {
@@ -64,7 +64,7 @@ fn one_range() -> Ranges
     Ranges { start: 0, list }
 }
 
-// Scales, one base matrix, and one range for each kind of block in each plane.
+/// Scales, one base matrix, and one range for each kind of block in each plane.
 fn import_ramps(alloc: Global) -> Result<Ramps, NoMem>
     ensures { IfOk result (λ ramps. ramps ≡ import_ramps) }
 {

@@ -33,7 +33,7 @@ impl Clone for Setup {
     }
 }
 
-// Limits, quantisers and trees, in the order in which they stand.
+/// Limits, quantisers and trees, in the order in which they stand.
 #[tactic(auto, unfolding(crate::specs::Setup::fields_of))]
 fn read_fields(alloc: Global, r: &mut BitReader) -> Result<Setup, Refusal>
     ensures value { GivesOrNoMem contents result r.new.left (fields_of r.old.left) }

@@ -9,12 +9,12 @@ use std::alloc::Global;
 use thr_huff::{Forest, Tree};
 use vid_base::NoMem;
 
-// How many trees a setup header has, and how many of them belong to each group of places of coefficients.
+/// How many trees a setup header has, and how many of them belong to each group of places of coefficients.
 const TREES: u8 = 80;
 
 const ROWS: u8 = 16;
 
-// The tree of these tokens whose codes all have so many bits and count up.
+/// The tree of these tokens whose codes all have so many bits and count up.
 #[tactic(auto, unfolding(crate::specs::ImportTrees::counting_up), using(crate::proofs::ImportLemmas::counting))]
 fn counting_up(alloc: Global, width: u32, tokens: &[u8]) -> Result<Tree, NoMem>
     requires { length tokens.now ≡ 2 ^ width }
@@ -29,7 +29,7 @@ fn counting_up(alloc: Global, width: u32, tokens: &[u8]) -> Result<Tree, NoMem>
     Tree::branch(alloc, left, right)
 }
 
-// The tree of tokens by rank: two codes behind 0, two behind 10, four behind 110, eight behind 1110 and sixteen behind 1111.
+/// The tree of tokens by rank: two codes behind 0, two behind 10, four behind 110, eight behind 1110 and sixteen behind 1111.
 #[tactic(auto, unfolding(crate::specs::ImportTrees::ranked_tree))]
 fn ranked_tree(alloc: Global, tokens: &[u8; 32]) -> Result<Tree, NoMem>
     ensures { IfOk result (λ tree. code_tree tree ≡ ranked_tree tokens.now) }
@@ -45,7 +45,7 @@ fn ranked_tree(alloc: Global, tokens: &[u8; 32]) -> Result<Tree, NoMem>
     Tree::branch(alloc, first, from_two)
 }
 
-// The tree of a number, the same in each group.
+/// The tree of a number, the same in each group.
 #[tactic(auto, unfolding(crate::specs::ImportTrees::import_tree, crate::specs::Tables::by_rank_1, crate::specs::Tables::by_rank_2, crate::specs::Tables::by_rank_3))]
 fn import_tree(alloc: Global, number: u8) -> Result<Tree, NoMem>
     ensures { IfOk result (λ tree. code_tree tree ≡ import_tree number) }
@@ -58,7 +58,7 @@ fn import_tree(alloc: Global, number: u8) -> Result<Tree, NoMem>
     }
 }
 
-// All trees.
+/// All trees.
 #[tactic(auto, unfolding(crate::specs::ImportTrees::import_forest))]
 fn import_trees(alloc: Global) -> Result<Vec<Tree>, NoMem>
     ensures { IfOk result (λ trees. map code_tree trees.items ≡ import_forest) }
@@ -71,7 +71,7 @@ fn import_trees(alloc: Global) -> Result<Vec<Tree>, NoMem>
     Ok(trees)
 }
 
-// The forest of all trees.
+/// The forest of all trees.
 #[tactic(auto, using(crate::proofs::ImportLemmas::is_import_forest))]
 pub(crate) fn import_forest(alloc: Global) -> Result<Forest, NoMem>
     ensures { IfOk result (λ forest. forest ≡ import_forest) }

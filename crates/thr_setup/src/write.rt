@@ -11,7 +11,7 @@ use thr_huff::write_forest;
 use thr_quant::{write_limits, write_ramps};
 use vid_base::{BitWriter, NoMem};
 
-// Limits, quantisers and trees as bits behind those that were there.
+/// Limits, quantisers and trees as bits behind those that were there.
 #[tactic(auto, unfolding(crate::specs::Setup::fields_bits))]
 fn write_fields(w: &mut BitWriter, setup: &Setup) -> Result<(), NoMem>
     ensures written { OnOk result (w.new ≡ w.old ++ fields_bits (contents setup.now)) }
@@ -21,7 +21,7 @@ fn write_fields(w: &mut BitWriter, setup: &Setup) -> Result<(), NoMem>
     write_forest(w, &setup.forest)
 }
 
-// The bytes behind the name, the last filled with 0 bits.
+/// The bytes behind the name, the last filled with 0 bits.
 fn field_bytes(alloc: Global, setup: &Setup) -> Result<Vec<u8>, NoMem>
     ensures written { IfOk result (λ bytes. bits_of bytes.items ≡ filled (fields_bits (contents setup.now))) }
 {
@@ -30,7 +30,7 @@ fn field_bytes(alloc: Global, setup: &Setup) -> Result<Vec<u8>, NoMem>
     Ok(w.finish())
 }
 
-// More bytes at the end, for which there is room.
+/// More bytes at the end, for which there is room.
 fn add(out: &mut Vec<u8>, bytes: &[u8])
     requires { vec_len out.old + length bytes.now ≤ vec_capacity out.old }
     ensures items { out.new.items ≡ out.old.items ++ bytes.now }

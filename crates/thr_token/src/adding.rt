@@ -12,7 +12,7 @@ use crate::spelling::{LONGEST_RUN, Spelling, spell};
 use crate::token::Token;
 use vid_base::NoMem;
 
-// A token with this meaning for a block at the place.
+/// A token with this meaning for a block at the place.
 fn push(tokens: &mut Vec<Token>, place: u8, luma: bool, meaning: Meaning) -> Result<(), NoMem>
     requires place { place < 64 }
     requires meaning { IsSayable (as_meaning meaning) }
@@ -42,7 +42,7 @@ pub(crate) fn close(tokens: &mut Vec<Token>, run: Option<Run>) -> Result<(), NoM
     }
 }
 
-// The end of a block at the place.
+/// The end of a block at the place.
 fn end(tokens: &mut Vec<Token>, run: Option<Run>, place: u8, luma: bool) -> Result<Run, NoMem>
     requires { place < 64 }
     ensures told { IfOk result (λ longer. (whole : List Token → Answer) (rest next : ℕ → List Token → Answer) → Ends place luma rest next →

@@ -14,7 +14,7 @@ pub(crate) enum Meaning {
     Value { zeros: u32, value: i16 },
 }
 
-// How many further bits each token has.
+/// How many further bits each token has.
 static WIDTHS: [u8; 32] = [
     0, 0, 0, 2, 3, 4, 12, 3, 6, 0, 0, 0, 0, 1, 1, 1, 1, 2, 3, 4, 5, 6, 10, 1, 1, 1, 1, 1, 3, 4, 2,
     3,
@@ -29,7 +29,7 @@ pub(crate) fn further_bits(token: u8) -> u32
     u32::from(WIDTHS[usize::from(token)])
 }
 
-// A number of this size; it is negative where the sign is 1.
+/// A number of this size; it is negative where the sign is 1.
 fn signed(size: u32, sign: u32) -> i16
     requires { size ≤ 580 }
     ensures { result ≡ signed size sign }
@@ -38,7 +38,7 @@ fn signed(size: u32, sign: u32) -> i16
     if sign == 1 { -size } else { size }
 }
 
-// So many zeros, and then a value of this size and sign.
+/// So many zeros, and then a value of this size and sign.
 fn valued(zeros: u32, size: u32, sign: u32) -> Meaning
     requires { size ≤ 580 }
     ensures { as_meaning result ≡ valued zeros size sign }

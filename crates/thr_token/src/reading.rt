@@ -45,7 +45,7 @@ pub fn read_tokens_with(
     Ok(())
 }
 
-// All blocks before their first tokens.
+/// All blocks before their first tokens.
 fn begin(flags: &[bool], values: &mut [[i16; 64]], counts: &mut [u8], work: &mut [u8])
     requires values { length values.old ≡ length flags.now }
     requires counts { length counts.old ≡ length flags.now }

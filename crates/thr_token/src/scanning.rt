@@ -10,7 +10,7 @@ use crate::places::ENDED;
 use crate::trees::{PlaceTrees, Trees};
 use vid_base::{BitReader, PacketFault};
 
-// How many of the blocks that stand at these places have not ended.
+/// How many of the blocks that stand at these places have not ended.
 fn unended(places: &[u8]) -> usize
     ensures { result ≡ unended_at places.now }
 {

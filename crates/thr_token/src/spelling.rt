@@ -25,7 +25,7 @@ pub(crate) fn in_one(zeros: u32, size: u32) -> bool
     zeros == 0 || (size == 1 && zeros < 18) || (size < 4 && zeros < 4)
 }
 
-// An end-of-block run of so many blocks.
+/// An end-of-block run of so many blocks.
 #[tactic(auto, unfolding(crate::specs::Tokens::meaning_of))]
 fn spell_run(blocks: u32) -> Spelling
     requires { (0 < blocks) × (blocks ≤ 4095) }
@@ -43,7 +43,7 @@ fn spell_run(blocks: u32) -> Spelling
     Spelling { token, extra }
 }
 
-// So many zeros.
+/// So many zeros.
 #[tactic(auto, unfolding(crate::specs::Tokens::meaning_of))]
 fn spell_zeros(zeros: u32) -> Spelling
     requires { (0 < zeros) × (zeros ≤ 64) }
@@ -56,7 +56,7 @@ fn spell_zeros(zeros: u32) -> Spelling
     }
 }
 
-// A value of this size; it is negative where the sign is 1.
+/// A value of this size; it is negative where the sign is 1.
 #[tactic(auto, unfolding(crate::specs::Tokens::meaning_of))]
 fn spell_value(size: u32, sign: u32) -> Spelling
     requires size { (0 < size) × (size ≤ 580) }
@@ -80,7 +80,7 @@ fn spell_value(size: u32, sign: u32) -> Spelling
     Spelling { token, extra }
 }
 
-// So many zeros and a value of this size behind them; it is negative where the sign is 1.
+/// So many zeros and a value of this size behind them; it is negative where the sign is 1.
 #[tactic(auto, unfolding(crate::specs::Tokens::meaning_of))]
 fn spell_both(zeros: u32, size: u32, sign: u32) -> Spelling
     requires zeros { 0 < zeros }

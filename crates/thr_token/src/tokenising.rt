@@ -20,7 +20,7 @@ use std::alloc::Global;
 use vid_base::NoMem;
 use vid_geom::Geom;
 
-// How many zeros a block has from the place on, if another value comes behind them.
+/// How many zeros a block has from the place on, if another value comes behind them.
 fn zeros_before(block: &[i16; 64], place: u8) -> Option<u8>
     requires { place < 64 }
     ensures { MatchOption result (AreZeros block.now place 64)
@@ -34,7 +34,7 @@ fn zeros_before(block: &[i16; 64], place: u8) -> Option<u8>
     None
 }
 
-// What is said next of a block at the place.
+/// What is said next of a block at the place.
 fn next_meaning(block: &[i16; 64], place: u8) -> Meaning
     requires place { place < 64 }
     requires values { All (λ v. unsigned_abs v ≤ 580) block.now }
@@ -56,7 +56,7 @@ fn next_meaning(block: &[i16; 64], place: u8) -> Meaning
     }
 }
 
-// Where a block at the place stands behind what is said of it.
+/// Where a block at the place stands behind what is said of it.
 fn place_behind(place: u8, meaning: Meaning) -> u8
     requires { place_behind place (as_meaning meaning) ≤ 64 }
     ensures { result ≡ place_behind place (as_meaning meaning) }
@@ -68,7 +68,7 @@ fn place_behind(place: u8, meaning: Meaning) -> u8
     }
 }
 
-// The tokens of the blocks at one place, and the run that is held back then. `work` has the place of each block.
+/// The tokens of the blocks at one place, and the run that is held back then. `work` has the place of each block.
 fn at_place(
     tokens: &mut Vec<Token>,
     held: Option<Run>,
@@ -101,7 +101,7 @@ fn at_place(
     Ok(run)
 }
 
-// The tokens of all blocks, and the run that is held back at the end.
+/// The tokens of all blocks, and the run that is held back at the end.
 fn all_places(
     tokens: &mut Vec<Token>,
     geom: &Geom,
@@ -125,7 +125,7 @@ fn all_places(
     Ok(run)
 }
 
-// Where the blocks stand before their first tokens.
+/// Where the blocks stand before their first tokens.
 fn first_places(alloc: Global, flags: &[bool]) -> Result<Vec<u8>, NoMem>
     ensures { IfOk result (λ work. work.items ≡ map first_place flags.now) }
 {

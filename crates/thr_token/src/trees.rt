@@ -43,7 +43,7 @@ pub(crate) struct PlaceTrees<'a> {
     ghost within: { (luma < 80) × (chroma < 80) },
 }
 
-// The group of a place.
+/// The group of a place.
 fn group_of(place: u8) -> u8
     ensures value { result ≡ group_of place }
     ensures small { result < 5 }

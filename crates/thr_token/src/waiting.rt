@@ -41,7 +41,7 @@ pub(crate) fn begin_listed(flags: &[bool], counts: &mut [u8], list: &mut [u32]) 
 }
 
 impl PlaceTrees<'_> {
-    // One block, which may stand at the place; where it stands then. The rest of the run that was active is in its place.
+    /// One block, which may stand at the place; where it stands then. The rest of the run that was active is in its place.
     #[tactic(auto, unfolding(crate::specs::Coefficients::visit))]
     fn visit(
         &self,

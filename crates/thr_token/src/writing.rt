@@ -23,7 +23,7 @@ pub(crate) enum Part {
 }
 
 impl Part {
-    // Whether the tokens of a place belong to the part.
+    /// Whether the tokens of a place belong to the part.
     fn has(self, place: u8) -> bool
         ensures { result ≡ in_part (as_part self) place }
     {
@@ -35,7 +35,7 @@ impl Part {
 }
 
 impl Tables {
-    // The tables of a part.
+    /// The tables of a part.
     pub(crate) fn of(&self, part: Part) -> TableNumbers
         ensures { as_numbers result ≡ numbers_of self.now (as_part part) }
     {
@@ -52,7 +52,7 @@ impl Tables {
     }
 }
 
-// Adds the numbers of two tables.
+/// Adds the numbers of two tables.
 #[tactic(auto, unfolding(crate::specs::WrittenTokens::numbers_code))]
 fn write_numbers(w: &mut BitWriter, numbers: TableNumbers) -> Result<(), NoMem>
     requires luma { numbers.luma < 16 }
@@ -65,7 +65,7 @@ fn write_numbers(w: &mut BitWriter, numbers: TableNumbers) -> Result<(), NoMem>
     w.put(u32::from(numbers.chroma), 4)
 }
 
-// Adds the code of a token and its further bits.
+/// Adds the code of a token and its further bits.
 #[tactic(auto, unfolding(crate::specs::WrittenTokens::token_code))]
 fn write_token(
     w: &mut BitWriter,
@@ -90,7 +90,7 @@ fn write_token(
     }
 }
 
-// Adds the codes of the tokens of a part.
+/// Adds the codes of the tokens of a part.
 fn write_codes(
     w: &mut BitWriter,
     tokens: &[Token],
@@ -115,7 +115,7 @@ fn write_codes(
     Ok(())
 }
 
-// Adds the numbers of the tables of a part and its tokens.
+/// Adds the numbers of the tables of a part and its tokens.
 #[tactic(auto, unfolding(crate::specs::WrittenTokens::part_code))]
 fn write_part(
     w: &mut BitWriter,

@@ -27,7 +27,7 @@ pub fn div_zero(a: i32, b: i32) -> i32
     a / b
 }
 
-// The nearest whole number to sum / n, halves upwards.
+/// The nearest whole number to sum / n, halves upwards.
 fn nearest(sum: u32, n: u32) -> u32
     requires some { 0 < n }
     requires small { (n ≤ 4) × (sum ≤ 124) }

@@ -16,7 +16,7 @@ pub use arithmetic::{div_zero, ilog, round_half_out, trunc16};
 pub use fault::{Ended, NoMem, PacketFault, Refusal};
 pub use fronts::fields_read_from_the_front;
 pub use reader::BitReader;
-pub use shape::{Shape, Vector};
+pub use shape::{MOST_MACRO_BLOCKS, Shape, Vector};
 pub use writer::BitWriter;
 
 #[cfg(test)]

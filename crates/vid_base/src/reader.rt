@@ -8,7 +8,7 @@ use crate::Ended;
 use std::marker::Model;
 
 /// Takes bits from the front of a packet, the most significant of each byte first.
-#[derive(Drop)]
+#[derive(Debug, Drop)]
 pub struct BitReader<'a> {
     bytes: &'a [u8],
     at: usize,
@@ -27,7 +27,7 @@ impl<'a> Model for BitReader<'a> {
     ghost invariant = { λ r. (r.at ≤ length r.bytes.now) × (r.shift < 8) × (8 * r.at + r.shift ≤ 8 * length r.bytes.now) };
 }
 
-// Bits of one byte as a number, how many they are, and the place behind them.
+/// Bits of one byte as a number, how many they are, and the place behind them.
 #[derive(Clone, Copy)]
 struct Piece {
     value: u32,
@@ -36,7 +36,7 @@ struct Piece {
     shift: u8,
 }
 
-// The bits that a byte still has behind a place of it, and at most so many.
+/// The bits that a byte still has behind a place of it, and at most so many.
 fn piece_at(bytes: &[u8], at: usize, shift: u8, most: u32) -> Piece
     requires at { at < length bytes.now }
     requires shift { shift < 8 }
@@ -67,7 +67,7 @@ fn piece_at(bytes: &[u8], at: usize, shift: u8, most: u32) -> Piece
     }
 }
 
-// Eight bytes behind a place as one number, where so many are there.
+/// Eight bytes behind a place as one number, where so many are there.
 #[inline]
 fn word_at(bytes: &[u8], at: usize) -> Option<u64>
     requires { at ≤ length bytes.now }
@@ -78,7 +78,7 @@ fn word_at(bytes: &[u8], at: usize) -> Option<u64>
     Some(u64::from_be_bytes(*eight))
 }
 
-// The n bits of a word behind its first few. They go up to the word's end, and then down to the low end.
+/// The n bits of a word behind its first few. They go up to the word's end, and then down to the low end.
 #[inline]
 fn bits_in(word: u64, shift: u8, n: u32) -> u32
     requires n { n ≤ 32 }
@@ -89,7 +89,7 @@ fn bits_in(word: u64, shift: u8, n: u32) -> u32
     ((word << shift) >> 1 >> (63 - n)) as u32
 }
 
-// The number of the n bits behind a place, and the place behind them.
+/// The number of the n bits behind a place, and the place behind them.
 #[inline]
 fn bits_at(bytes: &[u8], at: usize, shift: u8, n: u32) -> (u32, usize, u8)
     requires n { n ≤ 32 }
@@ -113,7 +113,7 @@ fn bits_at(bytes: &[u8], at: usize, shift: u8, n: u32) -> (u32, usize, u8)
     }
 }
 
-// The same byte by byte, where the packet ends within eight bytes.
+/// The same byte by byte, where the packet ends within eight bytes.
 fn bits_by_bytes(bytes: &[u8], at: usize, shift: u8, n: u32) -> (u32, usize, u8)
     requires n { n ≤ 32 }
     requires shift { shift < 8 }
@@ -137,7 +137,7 @@ fn bits_by_bytes(bytes: &[u8], at: usize, shift: u8, n: u32) -> (u32, usize, u8)
     (value, byte, bit)
 }
 
-// The digits of two numbers one behind the other, as one number.
+/// The digits of two numbers one behind the other, as one number.
 fn joined(value: u32, width: u32, more: u32, count: u32) -> u32
     requires value { value < 2 ^ width }
     requires more { more < 2 ^ count }
@@ -194,7 +194,7 @@ impl<'a> BitReader<'a> {
         8 * (behind as u64) + u64::from(8 - self.shift)
     }
 
-    // Whether n bits are left. No product here passes 64 bits, however long the packet is.
+    /// Whether n bits are left. No product here passes 64 bits, however long the packet is.
     fn has(&self, n: u32) -> bool
         requires { n ≤ 32 }
         ensures { IsTrue result ↔ (n ≤ length self.now.left) }

@@ -1,9 +1,9 @@
 // Sizes of a coded frame and its planes (Theora I, 2.1 and 4.4).
 ghost use Rattle.std.specs.Prelude.{◌≡◌, ◌≢◌, ◌*◌, ◌<◌, ◌≤◌, ◌↔◌, ◌≤ℤ◌, pos, negsuc, IsSome, IfSome};
-ghost use Rattle.vid_base.specs.Sizes.{IsShape, plane_width, plane_height};
+ghost use Rattle.vid_base.specs.Sizes.{IsShape, most_macro_blocks, plane_width, plane_height};
 
 /// The most macro blocks of a frame (own).
-const MOST_MACRO_BLOCKS: u32 = 131_072;
+pub const MOST_MACRO_BLOCKS: u32 = 131_072;
 
 /// A motion vector in half samples of a plane of full size, to the right and upwards (Theora I, 7.5.1).
 #[derive(Clone, Copy, Debug, PartialEq, Eq)]
@@ -22,7 +22,7 @@ pub struct Shape {
     pub pf: u8,
     ghost wide: { 0 < fmbw },
     ghost high: { 0 < fmbh },
-    ghost small: { fmbw * fmbh ≤ 131072 },
+    ghost small: { fmbw * fmbh ≤ most_macro_blocks },
     ghost format: { (pf ≤ 3) × (pf ≢ 1) },
 }
 

@@ -103,3 +103,16 @@ fn the_arithmetic_of_the_specification_at_its_edges(rt: HostRuntime) {
     ];
     assert_eq!(rt; means, [1, -1, 0, -2]);
 }
+
+// The bits that the specification codes and decodes as its example (Theora I, 5.2.2 and 5.2.3).
+#[test]
+fn the_example_of_the_specification_is_coded_and_decoded(rt: HostRuntime) {
+    let mut w = BitWriter::new(rt.alloc());
+    for (value, n) in [(12, 4), (7, 3), (17, 7), (6_969, 13)] {
+        assert!(rt; n < 32 && value < 1u32 << n);
+        assert_eq!(rt; w.put(value, n), Ok(()));
+    }
+    assert!(rt; w.finish().as_slice() == [0xce, 0x47, 0x67, 0x20].as_slice());
+    let mut r = BitReader::new(&[0xce, 0x47, 0x67, 0x20]);
+    assert_eq!(rt; (r.take(2), r.take(2)), (Ok(3), Ok(0)));
+}

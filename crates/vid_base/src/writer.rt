@@ -8,7 +8,7 @@ use std::alloc::Global;
 use std::marker::Model;
 
 /// Puts bits at the end of a packet, the most significant of each byte first.
-#[derive(Drop)]
+#[derive(Debug, Drop)]
 pub struct BitWriter {
     bytes: Vec<u8>,
     part: u8,
@@ -27,7 +27,7 @@ impl Model for BitWriter {
     ghost invariant = { λ w. (w.count < 8) × (w.part < 2 ^ w.count) × (0 < w.count → vec_len w.bytes < vec_capacity w.bytes) };
 }
 
-// One more byte, for which there is room.
+/// One more byte, for which there is room.
 fn add_byte(bytes: &mut Vec<u8>, byte: u8)
     requires { vec_len bytes.old < vec_capacity bytes.old }
     ensures items { bytes.new.items ≡ bytes.old.items ++ byte ∷ [] }
@@ -37,8 +37,8 @@ fn add_byte(bytes: &mut Vec<u8>, byte: u8)
     let _ = bytes.push(byte);
 }
 
-// The lowest `count` bits of a number, as far as they fill bytes, for which there is room. Says how many bits are over;
-// the byte that they begin has its room too.
+/// The lowest `count` bits of a number, as far as they fill bytes, for which there is room. Says how many bits are over;
+/// the byte that they begin has its room too.
 fn add_bytes(bytes: &mut Vec<u8>, bits: u64, count: u32) -> u32
     requires count { count < 64 }
     requires room { vec_len bytes.old + (count + 7) / 8 ≤ vec_capacity bytes.old }

@@ -9,7 +9,7 @@ ghost use Rattle.vid_desk.specs.Entry.{file_of};
 use std::alloc::{AllocError, Global};
 
 /// A file with its name.
-#[derive(Drop)]
+#[derive(Debug, Drop)]
 pub struct Entry {
     pub name: String,
     pub bytes: Vec<u8>,

@@ -4,7 +4,7 @@ ghost use Rattle.vid_desk.specs.Entry.{failing_of};
 ghost use Rattle.vid_desk.specs.Memory.{part_at};
 
 /// A call that is to fail, by its number, and how many first bytes of its piece stand all the same.
-#[derive(Clone, Copy)]
+#[derive(Clone, Copy, Debug)]
 pub struct Failing {
     pub call: u64,
     pub part: usize,

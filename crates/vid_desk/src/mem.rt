@@ -12,7 +12,7 @@ use vid_base::NoMem;
 mod calls;
 
 /// Inputs, outputs and printed text in memory. It tells everything, and chosen calls of it fail.
-#[derive(Drop)]
+#[derive(Debug, Drop)]
 pub struct MemDesk {
     alloc: Global,
     inputs: Vec<Entry>,

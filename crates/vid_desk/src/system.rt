@@ -13,8 +13,8 @@ pub fn open_input(rt: &impl Files<File = File>, path: &str) -> io::Result<Option
     }
 }
 
-// What stands at the path is looked at first, since opening a pipe waits for one who writes into it; and again once it
-// is open, since another file may stand there by then.
+/// What stands at the path is looked at first, since opening a pipe waits for one who writes into it; and again once it
+/// is open, since another file may stand there by then.
 fn open_regular(rt: &impl Files<File = File>, path: &str) -> io::Result<File> {
     require_regular(&fs::metadata(rt, path)?)?;
     let file = fs::open(rt, path)?;
@@ -22,7 +22,7 @@ fn open_regular(rt: &impl Files<File = File>, path: &str) -> io::Result<File> {
     Ok(file)
 }
 
-// A folder, a pipe or a device has no length, and its bytes are not there to be read again.
+/// A folder, a pipe or a device has no length, and its bytes are not there to be read again.
 fn require_regular(found: &Metadata) -> io::Result<()> {
     if found.is_file() {
         Ok(())
@@ -47,7 +47,7 @@ pub fn open_output(rt: &impl Files<File = File>, path: &str, inputs: &[File]) ->
     Ok(file)
 }
 
-// Both are of one file, by whatever names it was opened.
+/// Both are of one file, by whatever names it was opened.
 fn is_same(one: &Metadata, other: &Metadata) -> bool {
     one.dev() == other.dev() && one.ino() == other.ino()
 }

@@ -26,6 +26,10 @@ plane_blocks s pli = block_columns s pli * block_rows s pli
 abbrev pub blocks_before : Shape → ℕ → ℕ
 blocks_before s pli = if pli == 0 then 0 else if pli == 1 then plane_blocks s 0 else plane_blocks s 0 + plane_blocks s 1
 
+-- the most blocks that a frame has, 12 for each of 131,072 macro blocks (own)
+abbrev pub most_blocks : ℕ
+most_blocks = 1572864
+
 -- the block of a plane at a cell of its grid
 unfoldable pub block_of : ℕ → Cell → Block
 block_of pli c = record { pli = pli; col = c.col; row = c.row }

@@ -1,7 +1,7 @@
 // The layout of a frame: its blocks, superblocks and macro blocks (Theora I, 2.3 and 2.4).
 ghost use Rattle.std.specs.Prelude.{◌≡◌, ◌+◌, ◌*◌, ◌<◌, ◌≤◌, ◌^◌, ◌++◌, Some, IfOk, IsSomeAnd, All, length, map, slice_get, take};
 ghost use Rattle.vid_geom.specs.Squares.{joined, cell, cells, moved};
-ghost use Rattle.vid_geom.specs.CodedOrder.{block_columns, block_rows, block_grid, plane_blocks, blocks_before, block_of, IsBlock, IsPlaceIn, NamesEachOnce, order_of, place_of, superblocks, superblock_ranges};
+ghost use Rattle.vid_geom.specs.CodedOrder.{block_columns, block_rows, block_grid, plane_blocks, blocks_before, block_of, IsBlock, IsPlaceIn, NamesEachOnce, order_of, place_of, superblocks, superblock_ranges, most_blocks};
 ghost use Rattle.vid_geom.specs.ByBlock.{OwnBlocks};
 ghost use Rattle.vid_geom.specs.MacroBlocks.{columns_in, rows_in, blocks_in, filled, macro_blocks, macro_grid, macro_order, IsMacroBlock};
 ghost use Rattle.vid_geom.specs.Views.{cell_of};
@@ -70,13 +70,13 @@ impl Geom {
         ensures value { result ≡ length (order_of self.now) }
         ensures planes { result ≡ plane_blocks self.now 0 + plane_blocks self.now 1 + plane_blocks self.now 2 }
         ensures macro_blocks { result ≡ self.now.fmbw * self.now.fmbh * (4 + 2 * (columns_in self.now.pf 1 * rows_in self.now.pf 1)) }
-        ensures most { result ≤ 1572864 }
+        ensures most { result ≤ most_blocks }
         ensures each_once { NamesEachOnce self.now (order_of self.now) }
     {
         self.luma.blocks() + 2 * self.chroma.blocks()
     }
 
-    // The tables of a plane.
+    /// The tables of a plane.
     fn plane(&self, pli: u8) -> &Plane
         requires { pli < 3 }
         ensures { result.now ≡ block_grid self.now pli }
@@ -84,7 +84,7 @@ impl Geom {
         if pli == 0 { &self.luma } else { &self.chroma }
     }
 
-    // How many blocks the planes before a plane have.
+    /// How many blocks the planes before a plane have.
     fn blocks_before(&self, pli: u8) -> u32
         requires { pli < 3 }
         ensures value { result ≡ blocks_before self.now pli }
@@ -97,7 +97,7 @@ impl Geom {
         }
     }
 
-    // The plane of the block at a coded place.
+    /// The plane of the block at a coded place.
     #[tactic(auto, using(crate::proofs::OrderLemmas::order_length))]
     fn plane_at(&self, place: u32) -> u8
         requires { place < length (order_of self.now) }
@@ -175,7 +175,7 @@ impl Geom {
         u32::from(self.shape.fmbw) * u32::from(self.shape.fmbh)
     }
 
-    // The column and row of a macro block.
+    /// The column and row of a macro block.
     fn macro_cell(&self, m: u32) -> Cell
         requires { m < length (macro_blocks self.now) }
         ensures value { slice_get (cells (macro_grid self.now)) m ≡ Some (cell_of result) }
@@ -185,7 +185,7 @@ impl Geom {
         self.macro_blocks[m as usize]
     }
 
-    // The coded place of a macro block's block in a column and row of its blocks in a plane.
+    /// The coded place of a macro block's block in a column and row of its blocks in a plane.
     #[tactic(auto, unfolding(crate::specs::CodedOrder::block_of, crate::specs::Squares::moved))]
     fn place_in(&self, pli: u8, at: Cell, col: u32, row: u32) -> u32
         requires plane { pli < 3 }
@@ -203,7 +203,7 @@ impl Geom {
         })
     }
 
-    // The coded places of a macro block's blocks in a plane, and zeros behind them.
+    /// The coded places of a macro block's blocks in a plane, and zeros behind them.
     fn places_in(&self, pli: u8, at: Cell) -> [u32; 4]
         requires plane { pli < 3 }
         requires column { at.col < self.now.fmbw }

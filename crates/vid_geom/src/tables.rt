@@ -10,7 +10,7 @@ use crate::grid::{Cell, Grid};
 use std::alloc::Global;
 use vid_base::NoMem;
 
-// Adds the cell if the grid has it.
+/// Adds the cell if the grid has it.
 fn push_inside(out: &mut Vec<Cell>, grid: Grid, cell: Cell) -> Result<(), NoMem>
     ensures { OnOk result (map cell_of out.new.items ≡ map cell_of out.old.items ++ only_inside (grid_of grid) (cell_of cell)) }
 {
@@ -20,7 +20,7 @@ fn push_inside(out: &mut Vec<Cell>, grid: Grid, cell: Cell) -> Result<(), NoMem>
     Ok(())
 }
 
-// Adds the cells of a square.
+/// Adds the cells of a square.
 fn push_square(out: &mut Vec<Cell>, grid: Grid, col: u32, row: u32) -> Result<(), NoMem>
     requires col { col < 2 ^ 20 }
     requires row { row < 2 ^ 20 }
@@ -39,7 +39,7 @@ fn push_square(out: &mut Vec<Cell>, grid: Grid, col: u32, row: u32) -> Result<()
     Ok(())
 }
 
-// Adds the cells of a row of squares.
+/// Adds the cells of a row of squares.
 fn push_row(out: &mut Vec<Cell>, grid: Grid, row: u32) -> Result<(), NoMem>
     requires small { IsSmall (grid_of grid) }
     requires row { row < 2 ^ 20 }
@@ -77,7 +77,7 @@ pub fn places_of(alloc: Global, grid: Grid, order: &[Cell]) -> Result<Vec<u32>, 
     Ok(places)
 }
 
-// Adds the first place of each square of a grid and the place past its last, where the cells' places begin at `from`.
+/// Adds the first place of each square of a grid and the place past its last, where the cells' places begin at `from`.
 fn push_ranges(out: &mut Vec<(u32, u32)>, grid: Grid, from: u32) -> Result<(), NoMem>
     requires small { IsSmall (grid_of grid) }
     requires from { from < 2 ^ 22 }

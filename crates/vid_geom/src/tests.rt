@@ -182,3 +182,43 @@ fn each_place_is_named_by_one_macro_block(rt: HostRuntime) -> Result<(), Fail> {
     }
     Ok(())
 }
+
+// The frame that the specification numbers as its example: 240 by 48 samples (Theora I, 2.3 and 2.4). Coded places by row
+// from the bottom: at the first four columns, at one in the middle, and at the last two.
+const CODED: [[u32; 6]; 6] = [
+    [0, 1, 14, 15, 112, 113],
+    [3, 2, 13, 12, 115, 114],
+    [4, 7, 8, 11, 116, 119],
+    [5, 6, 9, 10, 117, 118],
+    [120, 121, 126, 127, 176, 177],
+    [123, 122, 125, 124, 179, 178],
+];
+
+// Its macro blocks in the same way, at the columns 0 to 3 and 12 to 14.
+const MACRO: [[u32; 7]; 3] = [
+    [0, 3, 4, 7, 24, 27, 28],
+    [1, 2, 5, 6, 25, 26, 29],
+    [30, 31, 32, 33, 42, 43, 44],
+];
+
+#[test]
+fn the_example_of_the_specification_has_its_coded_places(rt: HostRuntime) -> Result<(), Fail> {
+    let geom = geom(&rt, rt.alloc(), 15, 3, 0);
+    for (places, row) in CODED.iter().zip([0u32, 1, 2, 3, 4, 5]) {
+        for (place, col) in places.iter().zip([0u32, 1, 2, 3, 28, 29]) {
+            assert!(rt; *place < geom.blocks());
+            let want = Block { pli: 0, col, row };
+            assert_eq!(rt; geom.at(*place), want, "at {place}");
+        }
+    }
+    for (numbers, row) in MACRO.iter().zip([0u32, 2, 4]) {
+        for (m, col) in numbers.iter().zip([0u32, 2, 4, 6, 24, 26, 28]) {
+            assert!(rt; *m < geom.macro_blocks());
+            let place = geom.luma_places(*m)[0];
+            assert!(rt; place < geom.blocks());
+            let want = Block { pli: 0, col, row };
+            assert_eq!(rt; geom.at(place), want, "macro block {m}");
+        }
+    }
+    Ok(())
+}

@@ -9,7 +9,7 @@ use crate::entry::{Entry, add_name, bytes_at, extend, place_of};
 use crate::failing::next_call;
 use crate::{Desk, DeskFault, Failed};
 
-// That many first bytes of a piece, or all where it has fewer.
+/// That many first bytes of a piece, or all where it has fewer.
 fn first_bytes(piece: &[u8], count: usize) -> &[u8]
     ensures { result.now ≡ take count piece.now }
 {
