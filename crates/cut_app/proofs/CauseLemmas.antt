@@ -10,7 +10,7 @@ use Rattle.cut_desk.specs.Statuses.{IsOutside}
 use Rattle.cut_desk.proofs.InputLemmas.{not_absent}
 use Rattle.cut_slice.proofs.CauseLemmas.{one_status as one_of_cut}
 use Rattle.cut_report.specs.declared.status.Status.{Status}
-use Rattle.cut_report.specs.declared.status.Status.TheVariants.{Done, Usage, NoFile, BadSource, ReadFault, WriteFault, NoMem, TooLong, Changed, InPointNotKey, NotYet}
+use Rattle.cut_report.specs.declared.status.Status.TheVariants.{Done, Usage, NoFile, BadSource, BadList, Range, ReadFault, WriteFault, NoMem, TooLong, SameName, Changed, InPointNotKey, NotYet}
 use Rattle.cut_app.specs.Forms.{Form}
 use Rattle.cut_app.specs.Forms.Form.{Checking, Cutting}
 use Rattle.cut_app.specs.Texts.{IsFound}
@@ -51,6 +51,9 @@ end_of file files (TooLong input size) cause = elim cause.1 [
 ]
 end_of file files Usage cause = absurd cause
 end_of file files Changed cause = absurd cause
+end_of file files SameName cause = absurd cause
+end_of file files (BadList line why) cause = absurd cause
+end_of file files (Range line) cause = absurd cause
 end_of file files InPointNotKey cause = absurd cause
 end_of file files NotYet cause = absurd cause
 end_of file files ReadFault cause = inl tt
@@ -145,6 +148,9 @@ calm_outside old new NoMem outside read write calm = inr refl
 calm_outside old new Done outside read write calm = inl refl
 calm_outside old new Usage outside read write calm = absurd outside
 calm_outside old new Changed outside read write calm = absurd outside
+calm_outside old new SameName outside read write calm = absurd outside
+calm_outside old new (BadList line why) outside read write calm = absurd outside
+calm_outside old new (Range line) outside read write calm = absurd outside
 calm_outside old new (NoFile input) outside read write calm = absurd outside
 calm_outside old new (BadSource source what) outside read write calm = absurd outside
 calm_outside old new (TooLong input size) outside read write calm = absurd outside

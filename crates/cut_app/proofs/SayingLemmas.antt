@@ -8,7 +8,7 @@ use Rattle.vid_desk.specs.declared.fault.DeskFault.TheVariants.{Failed, NoMem as
 use Rattle.cut_desk.specs.Statuses.{writing_status}
 use Rattle.cut_report.specs.Lines.{fault_text}
 use Rattle.cut_report.specs.declared.status.Status.{Status}
-use Rattle.cut_report.specs.declared.status.Status.TheVariants.{Done, Usage, NoFile, BadSource, ReadFault, WriteFault, NoMem, TooLong, Changed, InPointNotKey, NotYet}
+use Rattle.cut_report.specs.declared.status.Status.TheVariants.{Done, Usage, NoFile, BadSource, BadList, Range, ReadFault, WriteFault, NoMem, TooLong, SameName, Changed, InPointNotKey, NotYet}
 use Rattle.cut_app.specs.Forms.{Form}
 use Rattle.cut_app.specs.Texts.{BreaksOff, HasSaid, IsFirstPart, IsTextOf, SaysLine, SaysOn, StopsAt}
 use Rattle.cut_app.specs.Commands.{Tells}
@@ -52,6 +52,9 @@ said_first old new form WriteFault stops = stops
 said_first old new form Done stops = ([], said_nothing old new stops, inl refl)
 said_first old new form Usage stops = ([], said_nothing old new stops, inl refl)
 said_first old new form Changed stops = ([], said_nothing old new stops, inl refl)
+said_first old new form SameName stops = ([], said_nothing old new stops, inl refl)
+said_first old new form (BadList line why) stops = ([], said_nothing old new stops, inl refl)
+said_first old new form (Range line) stops = ([], said_nothing old new stops, inl refl)
 said_first old new form (NoFile input) stops = ([], said_nothing old new stops, inl refl)
 said_first old new form (BadSource source what) stops = ([], said_nothing old new stops, inl refl)
 said_first old new form ReadFault stops = ([], said_nothing old new stops, inl refl)
@@ -82,6 +85,9 @@ says_status old mid new form NoMem stops not_done later outputs says = breaks ol
 says_status old mid new form Done stops not_done later outputs says = absurd (not_done refl)
 says_status old mid new form Usage stops not_done later outputs says = line_since old mid new (fault_text Usage) stops later says
 says_status old mid new form Changed stops not_done later outputs says = line_since old mid new (fault_text Changed) stops later says
+says_status old mid new form SameName stops not_done later outputs says = line_since old mid new (fault_text SameName) stops later says
+says_status old mid new form (BadList line why) stops not_done later outputs says = line_since old mid new (fault_text (BadList line why)) stops later says
+says_status old mid new form (Range line) stops not_done later outputs says = line_since old mid new (fault_text (Range line)) stops later says
 says_status old mid new form (NoFile input) stops not_done later outputs says = line_since old mid new (fault_text (NoFile input)) stops later says
 says_status old mid new form (BadSource source what) stops not_done later outputs says = line_since old mid new (fault_text (BadSource source what)) stops later says
 says_status old mid new form ReadFault stops not_done later outputs says = line_since old mid new (fault_text ReadFault) stops later says

@@ -12,7 +12,7 @@ use Rattle.cut_slice.specs.Cause.{Caused}
 use Rattle.cut_report.specs.declared.status.SourceWhat.{SourceWhat}
 use Rattle.cut_report.specs.declared.status.SourceWhat.TheVariants.{Packet, Page, Link}
 use Rattle.cut_report.specs.declared.status.Status.{Status}
-use Rattle.cut_report.specs.declared.status.Status.TheVariants.{Done, Usage, NoFile, BadSource, ReadFault, WriteFault, NoMem, TooLong, Changed, InPointNotKey, NotYet}
+use Rattle.cut_report.specs.declared.status.Status.TheVariants.{Done, Usage, NoFile, BadSource, BadList, Range, ReadFault, WriteFault, NoMem, TooLong, SameName, Changed, InPointNotKey, NotYet}
 use Rattle.cut_app.specs.Forms.{Form}
 use Rattle.cut_app.specs.Forms.Form.{Checking, Cutting}
 use Rattle.cut_app.specs.Texts.{IsFound}
@@ -65,6 +65,9 @@ CheckCaused file files WriteFault = ⊤
 CheckCaused file files NoMem = ⊤
 CheckCaused file files Usage = ⊥
 CheckCaused file files Changed = ⊥
+CheckCaused file files SameName = ⊥
+CheckCaused file files (BadList line why) = ⊥
+CheckCaused file files (Range line) = ⊥
 CheckCaused file files InPointNotKey = ⊥
 CheckCaused file files NotYet = ⊥
 
@@ -78,6 +81,9 @@ IsChecking NoMem = ⊤
 IsChecking Done = ⊥
 IsChecking Usage = ⊥
 IsChecking Changed = ⊥
+IsChecking SameName = ⊥
+IsChecking (BadList line why) = ⊥
+IsChecking (Range line) = ⊥
 IsChecking WriteFault = ⊥
 IsChecking InPointNotKey = ⊥
 IsChecking NotYet = ⊥

@@ -4,7 +4,7 @@ use Rattle.vid_desk.specs.Meaning.{File, Meaning}
 use Rattle.cut_desk.specs.Outputs.{IsCalm, LeavesOutputs, MakesAtMost}
 use Rattle.cut_slice.specs.Cause.{IsGivenAll as CanCut, Written}
 use Rattle.cut_report.specs.declared.status.Status.{Status}
-use Rattle.cut_report.specs.declared.status.Status.TheVariants.{Done, Usage, NoFile, BadSource, ReadFault, WriteFault, NoMem, TooLong, Changed, InPointNotKey, NotYet}
+use Rattle.cut_report.specs.declared.status.Status.TheVariants.{Done, Usage, NoFile, BadSource, BadList, Range, ReadFault, WriteFault, NoMem, TooLong, SameName, Changed, InPointNotKey, NotYet}
 use Rattle.cut_report.specs.Lines.{fault_text}
 use Rattle.cut_app.specs.Forms.{Form}
 use Rattle.cut_app.specs.Forms.Form.{Checking, Cutting}
@@ -44,6 +44,9 @@ MakesOnly old new (Some (Cutting cut)) = MakesAtMost old new cut.out
 abbrev pub SaysBy : Option Form → Meaning → Meaning → Status → Type 0
 SaysBy None old new Usage = SaysLine old new (fault_text Usage)
 SaysBy None old new Changed = HasSaid old new []
+SaysBy None old new SameName = HasSaid old new []
+SaysBy None old new (BadList line why) = HasSaid old new []
+SaysBy None old new (Range line) = HasSaid old new []
 SaysBy None old new Done = HasSaid old new []
 SaysBy None old new (NoFile input) = HasSaid old new []
 SaysBy None old new (BadSource source what) = HasSaid old new []

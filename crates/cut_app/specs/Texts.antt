@@ -12,7 +12,7 @@ use Rattle.src_index.specs.Loading.{IsJudged, longest}
 use Rattle.cut_desk.specs.Inputs.{contents}
 use Rattle.cut_report.specs.Lines.{fault_text, link_text, seekable_text}
 use Rattle.cut_report.specs.declared.status.Status.{Status}
-use Rattle.cut_report.specs.declared.status.Status.TheVariants.{Done, Usage, NoFile, BadSource, ReadFault, WriteFault, NoMem, TooLong, Changed, InPointNotKey, NotYet}
+use Rattle.cut_report.specs.declared.status.Status.TheVariants.{Done, Usage, NoFile, BadSource, BadList, Range, ReadFault, WriteFault, NoMem, TooLong, SameName, Changed, InPointNotKey, NotYet}
 use Rattle.cut_app.specs.Forms.{Form}
 use Rattle.cut_app.specs.Forms.Form.{Checking, Cutting}
 
@@ -64,6 +64,9 @@ StopsAt form old new WriteFault = (first : List ℕ) × HasSaid old new first ×
 StopsAt form old new Done = new.said ≡ old.said
 StopsAt form old new Usage = new.said ≡ old.said
 StopsAt form old new Changed = new.said ≡ old.said
+StopsAt form old new SameName = new.said ≡ old.said
+StopsAt form old new (BadList line why) = new.said ≡ old.said
+StopsAt form old new (Range line) = new.said ≡ old.said
 StopsAt form old new (NoFile input) = new.said ≡ old.said
 StopsAt form old new (BadSource source what) = new.said ≡ old.said
 StopsAt form old new ReadFault = new.said ≡ old.said
@@ -88,6 +91,9 @@ SaysOn form old new WriteFault = BreaksOff old new form (fault_text WriteFault)
 SaysOn form old new NoMem = BreaksOff old new form (fault_text NoMem)
 SaysOn form old new Usage = SaysLine old new (fault_text Usage)
 SaysOn form old new Changed = SaysLine old new (fault_text Changed)
+SaysOn form old new SameName = SaysLine old new (fault_text SameName)
+SaysOn form old new (BadList line why) = SaysLine old new (fault_text (BadList line why))
+SaysOn form old new (Range line) = SaysLine old new (fault_text (Range line))
 SaysOn form old new (NoFile input) = SaysLine old new (fault_text (NoFile input))
 SaysOn form old new (BadSource source what) = SaysLine old new (fault_text (BadSource source what))
 SaysOn form old new ReadFault = SaysLine old new (fault_text ReadFault)

@@ -2,3 +2,4 @@ pub mod Inputs
 pub mod Outputs
 pub mod Making
 pub mod Statuses
+pub mod Looking

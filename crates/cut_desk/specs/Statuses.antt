@@ -4,7 +4,7 @@ use Rattle.vid_desk.specs.Meaning.{Meaning}
 use Rattle.vid_desk.specs.declared.fault.DeskFault.{DeskFault}
 use Rattle.vid_desk.specs.declared.fault.DeskFault.TheVariants.{Failed, NoMem as NoRoom}
 use Rattle.cut_report.specs.declared.status.Status.{Status}
-use Rattle.cut_report.specs.declared.status.Status.TheVariants.{Done, Usage, NoFile, BadSource, ReadFault, WriteFault, NoMem, TooLong, Changed, InPointNotKey, NotYet}
+use Rattle.cut_report.specs.declared.status.Status.TheVariants.{Done, Usage, NoFile, BadSource, BadList, Range, ReadFault, WriteFault, NoMem, TooLong, SameName, Changed, InPointNotKey, NotYet}
 use Rattle.cut_desk.specs.Outputs.{LeavesOutputs}
 
 -- the status of a fault of a call that reads
@@ -30,6 +30,9 @@ IsOutside NoMem = ⊤
 IsOutside Done = ⊥
 IsOutside Usage = ⊥
 IsOutside Changed = ⊥
+IsOutside SameName = ⊥
+IsOutside (BadList line why) = ⊥
+IsOutside (Range line) = ⊥
 IsOutside (NoFile input) = ⊥
 IsOutside (BadSource source what) = ⊥
 IsOutside (TooLong input bytes) = ⊥
@@ -41,6 +44,9 @@ IsOutside NotYet = ⊥
 abbrev pub LeavesOutputsAt : Status → Meaning → Meaning → Type 0
 LeavesOutputsAt Usage old new = LeavesOutputs old new
 LeavesOutputsAt Changed old new = LeavesOutputs old new
+LeavesOutputsAt SameName old new = LeavesOutputs old new
+LeavesOutputsAt (BadList line why) old new = LeavesOutputs old new
+LeavesOutputsAt (Range line) old new = LeavesOutputs old new
 LeavesOutputsAt (NoFile input) old new = LeavesOutputs old new
 LeavesOutputsAt (BadSource source what) old new = LeavesOutputs old new
 LeavesOutputsAt (TooLong input bytes) old new = LeavesOutputs old new

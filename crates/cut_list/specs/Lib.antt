@@ -1,4 +1,5 @@
 pub mod Places
+pub mod Faults
 pub mod Slices
 pub mod Numbers
 pub mod Items

@@ -1,5 +1,6 @@
 // What can be wrong with an edit list (own).
 ghost use Rattle.std.specs.Prelude.{◌≡◌};
+ghost use Rattle.cut_list.specs.Faults.{name_of};
 ghost use Rattle.cut_list.specs.declared.fault.ListFault.TheVariants.{NoMem};
 
 use std::alloc::AllocFailed;
@@ -19,6 +20,22 @@ pub enum Why {
     TooMany,
     /// There is no item. This is said of the line behind the last.
     NoItem,
+}
+
+impl Why {
+    /// Its name, as it is printed: that of the variant.
+    pub fn name(self) -> &'static str
+        ensures { result.now ≡ name_of self }
+    {
+        match self {
+            Why::Head => "Head",
+            Why::Word => "Word",
+            Why::Number => "Number",
+            Why::EmptySlice => "EmptySlice",
+            Why::TooMany => "TooMany",
+            Why::NoItem => "NoItem",
+        }
+    }
 }
 
 /// Why an edit list was not read: its first bad line, or want of memory. Lines count from 1.

@@ -2,6 +2,7 @@
 ghost use Rattle.std.specs.Prelude.{◌≡◌};
 ghost use Rattle.cut_report.specs.Lines.{number_of};
 
+use cut_list::Why;
 use ogg_link::LinkFault;
 use ogg_page::PageFault;
 use vid_base::PacketFault;
@@ -39,6 +40,11 @@ pub enum Status {
     NoFile { input: u32 },
     /// Judging finds that fault in that source, the first bad one; sources count from 1 in the order of the words.
     BadSource { source: u32, what: SourceWhat },
+    /// That line of the list, counted from 1, is the first bad one, for that why.
+    BadList { line: u32, why: Why },
+    /// That line of the list is the first out of range: it names no source, ends past its source's frames, or makes the
+    /// frames of the list more than 2^24.
+    Range { line: u32 },
     /// The desk failed to read.
     ReadFault,
     /// The desk failed to write.
@@ -48,6 +54,8 @@ pub enum Status {
     /// That input, counted from 1 in the order of the words, is the first that has more bytes than its limit; `bytes` is
     /// its size.
     TooLong { input: u32, bytes: u64 },
+    /// The word of the output is that of an input.
+    SameName,
     /// A source is read again, and is not the one that was judged.
     Changed,
     /// The frame at which the slice begins is no key frame, so it cannot be copied.
@@ -66,10 +74,13 @@ impl Status {
             Status::Usage => 2,
             Status::NoFile { .. } => 3,
             Status::BadSource { .. } => 4,
+            Status::BadList { .. } => 5,
+            Status::Range { .. } => 6,
             Status::ReadFault => 8,
             Status::WriteFault => 9,
             Status::NoMem => 10,
             Status::TooLong { .. } => 14,
+            Status::SameName => 15,
             Status::Changed => 16,
             Status::InPointNotKey => 18,
             Status::NotYet => 19,

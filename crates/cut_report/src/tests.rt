@@ -1,4 +1,5 @@
 use crate::*;
+use cut_list::Why;
 use ogg_link::LinkFault;
 use ogg_page::PageFault;
 use thr_ident::Ident;
@@ -6,7 +7,7 @@ use vid_base::PacketFault;
 
 // Each status but that of a bad source, with the smallest and the largest numbers; the number with which the program
 // ends, and the line.
-const STATUSES: [(Status, u8, &str); 13] = [
+const STATUSES: [(Status, u8, &str); 22] = [
     (Status::Done, 0, ""),
     (Status::Usage, 2, "fault 2 usage\n"),
     (Status::NoFile { input: 0 }, 3, "fault 3 input 0 missing\n"),
@@ -14,6 +15,60 @@ const STATUSES: [(Status, u8, &str); 13] = [
         Status::NoFile { input: u32::MAX },
         3,
         "fault 3 input 4294967295 missing\n",
+    ),
+    (
+        Status::BadList {
+            line: 1,
+            why: Why::Head,
+        },
+        5,
+        "fault 5 line 1 Head\n",
+    ),
+    (
+        Status::BadList {
+            line: 2,
+            why: Why::Word,
+        },
+        5,
+        "fault 5 line 2 Word\n",
+    ),
+    (
+        Status::BadList {
+            line: 3,
+            why: Why::Number,
+        },
+        5,
+        "fault 5 line 3 Number\n",
+    ),
+    (
+        Status::BadList {
+            line: 4,
+            why: Why::EmptySlice,
+        },
+        5,
+        "fault 5 line 4 EmptySlice\n",
+    ),
+    (
+        Status::BadList {
+            line: 10_001,
+            why: Why::TooMany,
+        },
+        5,
+        "fault 5 line 10001 TooMany\n",
+    ),
+    (
+        Status::BadList {
+            line: u32::MAX,
+            why: Why::NoItem,
+        },
+        5,
+        "fault 5 line 4294967295 NoItem\n",
+    ),
+    (Status::Range { line: 2 }, 6, "fault 6 line 2\n"),
+    (
+        Status::Range { line: u32::MAX },
+        6,
+        "fault 6 line 4294967295\n",
     ),
     (Status::ReadFault, 8, "fault 8 read\n"),
     (Status::WriteFault, 9, "fault 9 write\n"),
@@ -39,6 +94,7 @@ const STATUSES: [(Status, u8, &str); 13] = [
         14,
         "fault 14 input 4294967295 bytes 18446744073709551615\n",
     ),
+    (Status::SameName, 15, "fault 15 name\n"),
     (Status::Changed, 16, "fault 16 changed\n"),
     (Status::InPointNotKey, 18, "fault 18 key\n"),
     (Status::NotYet, 19, "fault 19 form\n"),
@@ -201,6 +257,54 @@ link 20 picture 8000x4001 coded 8192x4096 pixels 422 rate 30000:1001 frames 0 ke
 link 4294967295 picture 1048560x1 coded 1048560x32 pixels 444 rate 4294967295:4294967294 frames 4294967294 keys 4294967293
 seekable yes
 seekable no
+"
+            .as_slice()
+    );
+}
+
+#[test]
+fn lines_of_plans_and_of_frames_stand_behind_what_was_there(rt: HostRuntime) {
+    let mut out = Vec::new(rt.alloc());
+    assert!(rt; out.extend_from_slice(b"before\n").is_ok());
+    assert_eq!(rt; run_line(&mut out, false, 1, 5, 10), Ok(()));
+    assert_eq!(rt;
+        run_line(&mut out, true, u32::MAX, 4_294_967_294, 4_294_967_293),
+        Ok(())
+    );
+    assert_eq!(rt; total_line(&mut out, 15, 5), Ok(()));
+    assert_eq!(rt;
+        total_line(&mut out, u64::MAX, 18_446_744_073_709_551_614),
+        Ok(())
+    );
+    assert_eq!(rt; frame_line(&mut out, 0, 1, 5, 6, 789), Ok(()));
+    assert_eq!(rt;
+        frame_line(
+            &mut out,
+            u64::MAX,
+            u32::MAX,
+            4_294_967_294,
+            255,
+            18_446_744_073_709_551_614
+        ),
+        Ok(())
+    );
+    assert_eq!(rt; exported_line(&mut out, 47), Ok(()));
+    assert_eq!(rt; imported_line(&mut out, 90), Ok(()));
+    assert_eq!(rt; made_line(&mut out, 90, 10_368_583), Ok(()));
+    assert_eq!(rt; made_line(&mut out, u32::MAX, u64::MAX), Ok(()));
+    assert_eq!(rt;
+        out.as_slice(),
+        b"before
+code 1 5 10
+copy 4294967295 4294967294 4294967293
+copied 15 coded 5
+copied 18446744073709551615 coded 18446744073709551614
+coded 0 source 1 frame 5 max 6 sum 789
+coded 18446744073709551615 source 4294967295 frame 4294967294 max 255 sum 18446744073709551614
+exported 47
+imported 90
+made 90 bytes 10368583
+made 4294967295 bytes 18446744073709551615
 "
             .as_slice()
     );

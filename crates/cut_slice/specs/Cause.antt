@@ -10,7 +10,7 @@ use Rattle.cut_desk.specs.Outputs.{LeavesOutputs, Makes}
 use Rattle.cut_slice.specs.SliceList.{Slice, slice_of}
 use Rattle.cut_slice.specs.Plain.{Packets, IsPlain, NotPlain, stream_of}
 use Rattle.cut_report.specs.declared.status.Status.{Status}
-use Rattle.cut_report.specs.declared.status.Status.TheVariants.{Done, Usage, NoFile, BadSource, ReadFault, WriteFault, NoMem, TooLong, Changed, InPointNotKey, NotYet}
+use Rattle.cut_report.specs.declared.status.Status.TheVariants.{Done, Usage, NoFile, BadSource, BadList, Range, ReadFault, WriteFault, NoMem, TooLong, SameName, Changed, InPointNotKey, NotYet}
 
 -- the names are apart, and both inputs are there
 pub record IsGiven (cut : Cut) (files : List File) (list source : List ℕ) : Type 0 where
@@ -44,34 +44,6 @@ abbrev pub NotCovered : List ℕ → List ℕ → Type 0
 NotCovered list source = (slice_of list ≡ None) ⊎ (NotPlain source
     ⊎ ((slice : Slice) × (packets : Packets) × (slice_of list ≡ Some slice) × IsPlain source packets × (length packets.frames < slice.past)))
 
--- of the statuses that come while inputs are looked for, NoFile says which is the first that is not there
-abbrev pub Missing : List File → List ℕ → List ℕ → Status → Type 0
-Missing files list source (NoFile input) = IsMissing files (list ∷ source ∷ []) input
-Missing files list source ReadFault = ⊤
-Missing files list source NoMem = ⊤
-Missing files list source Done = ⊥
-Missing files list source Usage = ⊥
-Missing files list source Changed = ⊥
-Missing files list source (BadSource at what) = ⊥
-Missing files list source WriteFault = ⊥
-Missing files list source (TooLong input bytes) = ⊥
-Missing files list source InPointNotKey = ⊥
-Missing files list source NotYet = ⊥
-
--- statuses that come while inputs are looked for
-abbrev pub IsLooking : Status → Type 0
-IsLooking Done = ⊥
-IsLooking Usage = ⊥
-IsLooking Changed = ⊥
-IsLooking (NoFile input) = ⊤
-IsLooking (BadSource at what) = ⊥
-IsLooking ReadFault = ⊤
-IsLooking WriteFault = ⊥
-IsLooking NoMem = ⊤
-IsLooking (TooLong input bytes) = ⊥
-IsLooking InPointNotKey = ⊥
-IsLooking NotYet = ⊥
-
 -- both inputs are there, and the list is of the form
 pub record GivesBoth (files : List File) (list source : List ℕ) (slice : Slice) (bytes : List ℕ) : Type 0 where
   pub text : List ℕ
@@ -97,6 +69,9 @@ RefusesBoth files list source NoMem = ⊤
 RefusesBoth files list source Done = ⊥
 RefusesBoth files list source Usage = ⊥
 RefusesBoth files list source Changed = ⊥
+RefusesBoth files list source SameName = ⊥
+RefusesBoth files list source (BadList line why) = ⊥
+RefusesBoth files list source (Range line) = ⊥
 RefusesBoth files list source (BadSource at what) = ⊥
 RefusesBoth files list source WriteFault = ⊥
 RefusesBoth files list source (TooLong input bytes) = ⊥
@@ -107,6 +82,9 @@ abbrev pub IsReading : Status → Type 0
 IsReading Done = ⊥
 IsReading Usage = ⊥
 IsReading Changed = ⊥
+IsReading SameName = ⊥
+IsReading (BadList line why) = ⊥
+IsReading (Range line) = ⊥
 IsReading (NoFile input) = ⊤
 IsReading (BadSource at what) = ⊥
 IsReading ReadFault = ⊤
@@ -134,6 +112,9 @@ RefusesSource slice bytes NoMem = ⊤
 RefusesSource slice bytes Done = ⊥
 RefusesSource slice bytes Usage = ⊥
 RefusesSource slice bytes Changed = ⊥
+RefusesSource slice bytes SameName = ⊥
+RefusesSource slice bytes (BadList line why) = ⊥
+RefusesSource slice bytes (Range line) = ⊥
 RefusesSource slice bytes (NoFile input) = ⊥
 RefusesSource slice bytes (BadSource at what) = ⊥
 RefusesSource slice bytes ReadFault = ⊥
@@ -148,6 +129,9 @@ abbrev pub IsCutting : Status → Type 0
 IsCutting Done = ⊥
 IsCutting Usage = ⊥
 IsCutting Changed = ⊥
+IsCutting SameName = ⊥
+IsCutting (BadList line why) = ⊥
+IsCutting (Range line) = ⊥
 IsCutting (NoFile input) = ⊥
 IsCutting (BadSource at what) = ⊥
 IsCutting ReadFault = ⊥
@@ -173,6 +157,9 @@ Caused cut files NotYet = (clashes cut ≡ true) ⊎ ((list : List ℕ) × (sour
 Caused cut files (NoFile input) = (clashes cut ≡ false) × IsMissing files (cut.list ∷ cut.source ∷ []) input
 Caused cut files Usage = ⊥
 Caused cut files Changed = ⊥
+Caused cut files SameName = ⊥
+Caused cut files (BadList line why) = ⊥
+Caused cut files (Range line) = ⊥
 Caused cut files (BadSource source what) = ⊥
 Caused cut files (TooLong input bytes) = ⊥
 Caused cut files ReadFault = ⊤
