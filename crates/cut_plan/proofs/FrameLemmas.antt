@@ -1,12 +1,12 @@
 -- Joining keeps the frames that slices name, one by one. The law of joined slices cites this.
-use Rattle.std.proofs.Common.{◌≡◌, ℕ, ◌+◌, ◌-◌, ◌≤◌, Bool, true, false, List, [], ◌∷◌, ◌++◌, map, refl, ap, sym, ◌∙◌, arith, append_assoc}
+use Rattle.std.proofs.Common.{◌≡◌, ℕ, ◌+◌, ◌-◌, ◌≤◌, Bool, true, false, List, [], ◌∷◌, ◌++◌, map, refl, ap, ◌∙◌, arith, append_assoc}
 use Rattle.std.specs.Prelude.{◌==◌, ◌&&◌, ⊤, if◌then◌else◌}
 use Rattle.std.specs.List.{range_with_len}
 use Rattle.std.proofs.lemmas.Bool.{and_parts, eqb-true}
 use Rattle.cut_list.specs.Slices.{slice_view, slices_view}
 use Rattle.cut_list.specs.declared.list.Slice.{Slice as SliceStruct}
 use Rattle.cut_plan.proofs.LawLemmas.{range_cut}
-use Rattle.cut_plan.specs.Spans.{Frame, Frames, Span, Spans, all_frames, frames_of, join, joined, span_of, spans_of}
+use Rattle.cut_plan.specs.Spans.{Frame, Span, Spans, all_frames, frames_of, join, joined, span_of, spans_of}
 
 -- each span ends behind its first frame
 Ordered : Spans → Type 0

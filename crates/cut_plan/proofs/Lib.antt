@@ -2,3 +2,4 @@ mod RangeLemmas
 mod JoinLemmas
 pub mod LawLemmas
 pub mod FrameLemmas
+pub mod CountLemmas

@@ -1,11 +1,11 @@
 -- Slices in range, one by one. The loops over slices and the planner cite these.
-use Rattle.std.proofs.Common.{◌≡◌, ℕ, zero, suc, ◌+◌, ◌-◌, ◌<◌, ◌≤◌, Bool, true, false, List, [], ◌∷◌, length, map, drop, take, get_or, Some, None, refl, ap, sym, ◌∙◌, arith, add-one, drop-cons, leb-true}
+use Rattle.std.proofs.Common.{◌≡◌, ℕ, suc, ◌+◌, ◌-◌, ◌<◌, ◌≤◌, Bool, true, false, List, [], ◌∷◌, length, map, drop, take, get_or, Some, None, refl, ap, sym, ◌∙◌, arith, add-one, drop-cons, leb-true}
 use Rattle.std.proofs.lemmas.Bool.{and_parts}
 use Rattle.std.proofs.lemmas.List.{length-map, take_rest}
 use Rattle.std.proofs.Math.ListN.{drop_of_length-le, get_or-map}
 use Rattle.cut_list.specs.Slices.{Slice, Slices, slice_view, slices_view}
 use Rattle.cut_list.specs.declared.list.Slice.{Slice as SliceStruct}
-use Rattle.cut_plan.specs.Forced.{Marks, marks_of}
+use Rattle.cut_plan.specs.Forced.{Marks}
 use Rattle.cut_plan.specs.Range.{first_outside, is_inside}
 use Rattle.cut_plan.specs.Spans.{span_of}
 use Rattle.cut_plan.specs.Views.{AreInside, IsSpan}

@@ -1,3 +1,4 @@
+pub mod Targets
 pub mod Spans
 pub mod Range
 pub mod Forced

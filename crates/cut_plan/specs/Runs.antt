@@ -46,3 +46,20 @@ planned_by (Copy src first past) = map (λ n. record { src = src; n = n; coded =
 abbrev pub planned_by_runs : List Run → List Planned
 planned_by_runs [] = []
 planned_by_runs (run ∷ runs) = planned_by run ++ planned_by_runs runs
+
+-- how many frames runs copy, and how many they code
+abbrev pub copied_by : Run → ℕ
+copied_by (Copy src first past) = past - first
+copied_by (Code src first past) = 0
+
+abbrev pub coded_by : Run → ℕ
+coded_by (Copy src first past) = 0
+coded_by (Code src first past) = past - first
+
+abbrev pub frames_copied : List Run → ℕ
+frames_copied [] = 0
+frames_copied (run ∷ runs) = copied_by run + frames_copied runs
+
+abbrev pub frames_coded : List Run → ℕ
+frames_coded [] = 0
+frames_coded (run ∷ runs) = coded_by run + frames_coded runs

@@ -1,9 +1,13 @@
 ghost use Rattle.std.specs.Prelude.{◌≡◌, IfOk, length};
+ghost use Rattle.vid_plane.specs.Frames.{IsFrameOf, sealed_frame};
 
 use crate::*;
 use cut_list::read_list;
 use std::alloc::{AllocError, Global};
 use std::test::Fail;
+use vid_base::Shape;
+use vid_desk::{Desk, MemDesk};
+use vid_plane::Frame;
 
 /// A run as numbers: 1 where it is coded, and its source, first frame and end.
 type Row = [u32; 4];
@@ -101,5 +105,53 @@ fn a_list_of_2_to_the_24_frames_is_planned_and_one_more_is_not(
     )?;
     let got = plan(rt.alloc(), &list, &[8_388_608], &keys);
     assert_eq!(rt; got.err(), Some(PlanFault::Range { line: 5 }));
+    Ok(())
+}
+
+// One picture for each frame.
+#[derive(Drop)]
+struct Still {
+    shape: Shape,
+    picture: Frame,
+    ghost sized: { IsFrameOf shape picture },
+    ghost sealed: { sealed_frame picture ≡ picture },
+}
+
+impl<D: Desk> Targets<D> for Still {
+    ghost use Rattle.std.specs.Prelude.{true};
+    ghost use Rattle.cut_plan.specs.Targets.{TargetMeaning};
+
+    ghost shows = { λ still. record {
+      above = 0;
+      covers = λ src n. true;
+      shape = λ src n. still.shape;
+      picture = λ files src n. still.picture;
+      made = λ files. true;
+    } };
+
+    fn target(
+        &mut self,
+        _desk: &mut D,
+        _src: u32,
+        _n: u32,
+        into: &mut Frame,
+    ) -> Result<(), TargetFault> {
+        into.copy_from(&self.picture);
+        Ok(())
+    }
+}
+
+#[test]
+fn a_still_picture_is_a_target(rt: HostRuntime) -> Result<(), Fail> {
+    let Some(shape) = Shape::new(2, 1, 0) else {
+        panic!(&rt; "there is no shape")
+    };
+    let mut still = Still {
+        shape,
+        picture: Frame::new(rt.alloc(), shape)?,
+    };
+    let mut into = Frame::new(rt.alloc(), shape)?;
+    let mut desk = MemDesk::new(rt.alloc());
+    assert_eq!(rt; still.target(&mut desk, 1, 0, &mut into), Ok(()));
     Ok(())
 }

@@ -1,9 +1,7 @@
-use Rattle.std.proofs.Common.{◌≡◌, ◌≤◌, ◌+◌, ◌++◌, [], drop, length, sym, ap, ◌∙◌, refl, arith}
+use Rattle.std.proofs.Common.{◌+◌, ◌++◌, drop, sym, ap, ◌∙◌, refl, arith}
 use Rattle.std.proofs.lemmas.List.{append-nil}
-use Rattle.cut_list.specs.Slices.{slice_view, slices_view}
-use Rattle.cut_plan.specs.Runs.{all_runs, runs_of}
-use Rattle.cut_plan.specs.Spans.{join, joined}
-use Rattle.cut_plan.specs.Views.{AreInside, marks_view, span_view}
+use Rattle.cut_list.specs.Slices.{slices_view}
+use Rattle.cut_plan.specs.Spans.{joined}
 use Rattle.cut_plan.proofs.RangeLemmas.{view-item, view-none}
 use Rattle.cut_plan.proofs.join.runs_from.Goals as goal
 

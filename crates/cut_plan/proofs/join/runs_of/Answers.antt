@@ -1,6 +1,5 @@
-use Rattle.std.proofs.Common.{◌≡◌, [], ◌∙◌, ap, sym, refl, arith}
+use Rattle.std.proofs.Common.{◌≡◌, [], ◌∙◌, ap, sym, arith}
 use Rattle.cut_plan.proofs.RangeLemmas.{view-first, no_slice}
-use Rattle.std.proofs.lemmas.Grind.{common_steps}
 use Rattle.cut_list.specs.Slices.{slices_view}
 use Rattle.cut_plan.specs.Runs.{all_runs}
 use Rattle.cut_plan.specs.Views.{marks_view}

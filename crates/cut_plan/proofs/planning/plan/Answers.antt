@@ -1,9 +1,9 @@
-use Rattle.std.proofs.Common.{◌≡◌, ◌∙◌, ℕ, List, IfOk, Result, Ok, Err, sym, ap, None, Some, refl}
+use Rattle.std.proofs.Common.{◌≡◌, List, IfOk, Result, Ok, Err, sym, ap, None, refl}
 use Rattle.std.specs.Global.{Vec}
 use Rattle.cut_list.specs.Slices.{slices_view}
 use Rattle.cut_plan.specs.Range.{first_outside}
 use Rattle.cut_plan.specs.Runs.{or_line, plan_of}
-use Rattle.cut_plan.specs.Views.{AreInside, marks_view}
+use Rattle.cut_plan.specs.Views.{marks_view}
 use Rattle.cut_plan.proofs.RangeLemmas.{all_inside}
 use Rattle.cut_plan.specs.declared.fault.PlanFault.{PlanFault}
 use Rattle.cut_plan.specs.declared.run.Run.{Run}

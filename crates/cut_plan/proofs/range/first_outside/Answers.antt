@@ -1,5 +1,5 @@
-use Rattle.std.proofs.Common.{◌≡◌, ◌≤◌, true, false, length, sym, ◌∙◌, arith}
-use Rattle.cut_list.specs.Slices.{slice_view, slices_view}
+use Rattle.std.proofs.Common.{◌≡◌, true, false, sym, ◌∙◌, arith}
+use Rattle.cut_list.specs.Slices.{slice_view}
 use Rattle.cut_plan.specs.Range.{is_inside}
 use Rattle.cut_plan.proofs.RangeLemmas.{first_outside-inside, first_outside-none, first_outside-outside, inside-few, view-item, view-none}
 use Rattle.cut_plan.proofs.range.first_outside.Goals as goal

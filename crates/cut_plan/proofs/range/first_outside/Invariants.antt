@@ -1,4 +1,4 @@
-use Rattle.std.proofs.Common.{◌≡◌, ◌≤◌, ◌^◌, drop}
+use Rattle.std.proofs.Common.{◌≡◌, ◌≤◌, drop}
 use Rattle.cut_list.specs.Slices.{slices_view}
 use Rattle.cut_plan.specs.Range.{first_outside}
 use Rattle.cut_plan.proofs.range.first_outside.Given as goal
