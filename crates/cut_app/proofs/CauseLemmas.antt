@@ -3,18 +3,19 @@
 use Rattle.std.proofs.Common.{◌≡◌, ℕ, ◌≤◌, List, length, Option, Some, None, Ok, Err, inl, inr, ◌⊎◌, refl, ap, sym, ◌∙◌, arith}
 use Rattle.vid_desk.specs.Meaning.{File, Meaning, Rose}
 use Rattle.src_index.specs.Judge.{Verdict}
-use Rattle.src_index.proofs.VerdictLemmas.{one_verdict}
 use Rattle.cut_desk.specs.Inputs.{IsAbsent, IsOverlong}
 use Rattle.cut_desk.specs.Outputs.{IsCalm, LeavesOutputs}
 use Rattle.cut_desk.specs.Statuses.{IsOutside}
 use Rattle.cut_desk.proofs.InputLemmas.{not_absent}
 use Rattle.cut_slice.proofs.CauseLemmas.{one_status as one_of_cut}
+use Rattle.cut_app.proofs.FindingLemmas.{one_finding}
+use Rattle.cut_app.proofs.PlanCauseLemmas.{one_of_plan}
 use Rattle.cut_report.specs.declared.status.Status.{Status}
 use Rattle.cut_report.specs.declared.status.Status.TheVariants.{Done, Usage, NoFile, BadSource, BadList, Range, ReadFault, WriteFault, NoMem, TooLong, SameName, Changed, InPointNotKey, NotYet}
 use Rattle.cut_app.specs.Forms.{Form}
-use Rattle.cut_app.specs.Forms.Form.{Checking, Cutting}
-use Rattle.cut_app.specs.Texts.{IsFound}
-use Rattle.cut_app.specs.Causes.{CausedBy, CheckCaused, FormCaused, IsOnly, first_file, source_input, what_of}
+use Rattle.cut_app.specs.Forms.Form.{Checking, Cutting, Planning}
+use Rattle.cut_app.specs.Found.{IsFound}
+use Rattle.cut_app.specs.Causes.{CausedBy, CheckCaused, FormCaused, IsOnly, one_source, source_input, what_of}
 use Rattle.cut_app.specs.Commands.{Completes, CreatesWhenGiven, IsGivenAll, Tells}
 
 -- how a check ends that its file brings to its end: it is not there, it has too many bytes, or judging finds this
@@ -29,10 +30,10 @@ IsEnd file files (Overlong size) = IsOverlong files size (source_input file)
 IsEnd file files (Judged verdict) = IsFound files file verdict
 
 abbrev status_of : End → Status
-status_of Absent = NoFile first_file
-status_of (Overlong size) = TooLong first_file size
+status_of Absent = NoFile one_source
+status_of (Overlong size) = TooLong one_source size
 status_of (Judged (Ok packets)) = Done
-status_of (Judged (Err fault)) = BadSource first_file (what_of fault)
+status_of (Judged (Err fault)) = BadSource one_source (what_of fault)
 
 -- each status has such an end, but for those that no input is the cause of
 end_of : (file : List ℕ) (files : List File) (status : Status) → CheckCaused file files status → IsOutside status ⊎ ((end : End) × IsEnd file files end × (status ≡ status_of end))
@@ -42,7 +43,7 @@ end_of file files (NoFile input) cause = elim cause [
   | inr none ↦ absurd none.1
 ]
 end_of file files (BadSource source what) cause = elim cause.1 [
-  | inl first ↦ inr (Judged (Err first.1.0), first.1.2, ap (λ n. BadSource n what) first.0 ∙ ap (λ w. BadSource first_file w) first.1.1)
+  | inl first ↦ inr (Judged (Err first.1.0), first.1.2, ap (λ n. BadSource n what) first.0 ∙ ap (λ w. BadSource one_source w) first.1.1)
   | inr none ↦ absurd none.1
 ]
 end_of file files (TooLong input size) cause = elim cause.1 [
@@ -59,12 +60,6 @@ end_of file files NotYet cause = absurd cause
 end_of file files ReadFault cause = inl tt
 end_of file files WriteFault cause = inl tt
 end_of file files NoMem cause = inl tt
-
--- judging a file finds one thing
-one_finding : (files : List File) (file : List ℕ) (v w : Verdict) → IsFound files file v → IsFound files file w → v ≡ w
-one_finding files file v w first second =
-    let same : first.bytes ≡ second.bytes = cc (first.there, second.there) in
-    one_verdict second.bytes v w (rw same at first.judged.1) second.judged.1
 
 -- a file in which judging finds something is not too long
 not_overlong : (files : List File) (file : List ℕ) (v : Verdict) (size : ℕ) → IsFound files file v → IsOverlong files size (source_input file) → ⊥
@@ -83,7 +78,7 @@ one_end file files Absent Absent h k = refl
 one_end file files Absent (Overlong size) h k = absurd (not_absent files file k.0 k.1 h)
 one_end file files Absent (Judged verdict) h k = absurd (not_absent files file k.bytes k.there h)
 one_end file files (Overlong size) Absent h k = absurd (not_absent files file h.0 h.1 k)
-one_end file files (Overlong size) (Overlong other) h k = ap (λ n. TooLong first_file n) (one_size files file size other h k)
+one_end file files (Overlong size) (Overlong other) h k = ap (λ n. TooLong one_source n) (one_size files file size other h k)
 one_end file files (Overlong size) (Judged verdict) h k = absurd (not_overlong files file verdict size k h)
 one_end file files (Judged verdict) Absent h k = absurd (not_absent files file h.bytes h.there k)
 one_end file files (Judged verdict) (Overlong size) h k = absurd (not_overlong files file verdict size h k)
@@ -100,6 +95,7 @@ one_of_check file files a b x y = elim (end_of file files a x) [
 
 one_of_form : (form : Form) (files : List File) (a b : Status) → FormCaused form files a → FormCaused form files b → IsOutside a ⊎ (IsOutside b ⊎ (a ≡ b))
 one_of_form (Checking file) files a b x y = one_of_check file files a b x y
+one_of_form (Planning plan) files a b x y = one_of_plan plan files a b x y
 one_of_form (Cutting cut) files a b x y = one_of_cut cut files a b x y
 
 -- words without a form are Usage, but where no memory was found
@@ -134,6 +130,7 @@ only_told mid new form files status told cause tells = elim tells [
 -- a line that is told asks nothing of the outputs
 pub created_told : (old mid new : Meaning) (form : Form) (files : List File) → new ≡ record mid { said = new.said; write_faults = new.write_faults } → CreatesWhenGiven old mid (Some form) files → CreatesWhenGiven old new (Some form) files
 created_told old mid new (Checking file) files kept left = left_told old mid new kept left
+created_told old mid new (Planning plan) files kept left = left_told old mid new kept left
 created_told old mid new (Cutting cut) files kept created = elim created [
   | inl left ↦ inl (left_told old mid new kept left)
   | inr given ↦ inr given
@@ -160,6 +157,7 @@ calm_outside old new NotYet outside read write calm = absurd outside
 -- what a command needs is the cause of its being done
 done_of : (form : Form) (files : List File) → IsGivenAll form files → FormCaused form files Done
 done_of (Checking file) files given = given
+done_of (Planning plan) files given = given
 done_of (Cutting cut) files given = given
 
 completes_form : (old new : Meaning) (form : Form) (files : List File) (status : Status) → FormCaused form files status

@@ -6,22 +6,15 @@ use Rattle.std.proofs.lemmas.List.{take_more, take_all, length-append, length-dr
 use Rattle.std.proofs.lemmas.List.Elements.{filter-append}
 use Rattle.vid_desk.specs.Meaning.{File}
 use Rattle.ogg_link.specs.Track.{is_key}
-use Rattle.src_index.specs.declared.fault.SourceFault.{SourceFault}
-use Rattle.src_index.specs.declared.fault.SourceFault.TheVariants.{Bad, Page, Link, TooLong, ReadFault, Changed, NoMem}
-use Rattle.src_index.specs.declared.fault.Fault.TheVariants.{InPacket, InPage, InLink}
-use Rattle.src_index.specs.declared.fault.Fault.{Fault}
 use Rattle.src_index.specs.Index.{Index, frame_count, keys_of}
 use Rattle.src_index.specs.Track.{frames_of}
-use Rattle.src_index.specs.Loading.{Answers, IsJudged, longest}
+use Rattle.src_index.specs.Loading.{IsJudged, longest}
 use Rattle.src_index.proofs.IndexLemmas.{index_count, index_keys}
 use Rattle.thr_ident.specs.Ident.{ident_of}
 use Rattle.cut_report.specs.Lines.{link_text, seekable_text}
-use Rattle.cut_app.specs.Index.{marked, IsIndexText, IsRead}
+use Rattle.cut_app.specs.Index.{marked, HasIndex, IsIndexText}
 use Rattle.cut_app.specs.Texts.{IsCheckText, key_count}
-use Rattle.std.proofs.lemmas.List.Elements.{All-cons, All-nil}
-use Rattle.cut_desk.specs.Inputs.{contents, IsThere, IsWithin}
-use Rattle.cut_desk.proofs.InputLemmas.{there_of}
-use Rattle.cut_app.specs.Causes.{CheckCaused, IsBad, IsChecking, IsSound, refusal_status, source_input, what_of}
+use Rattle.cut_app.specs.Causes.{IsSound}
 
 -- how many marks of key frames there are among the first n
 abbrev pub keys_among : ℕ → List Bool → ℕ
@@ -48,7 +41,7 @@ marked_keys (packet ∷ packets) = elim (is_key packet) as (λ key. length (if k
 ]
 
 -- what is said of an index is said of the file
-pub text_of_file : (files : List File) (file text : List ℕ) (index : Index) → IsRead files file index → IsIndexText index text → IsCheckText files file text
+pub text_of_file : (files : List File) (file text : List ℕ) (index : Index) → HasIndex files file index → IsIndexText index text → IsCheckText files file text
 text_of_file files file text index read said =
     let packets = read.indexed.packets in
     let index_of = read.indexed.index_of in
@@ -67,37 +60,13 @@ text_of_file files file text index read said =
       };
     }
 
--- the first fault that judging finds in a file
-bad_caused : (files : List File) (file bytes : List ℕ) (fault : Fault) → contents files file ≡ Some bytes → IsJudged longest bytes (Err fault) → IsBad files (file ∷ []) 1 (what_of fault)
-bad_caused files file bytes fault there judged = (All-cons (λ name. IsWithin files (source_input name)) file [] (bytes, there, judged.0) (All-nil (λ name. IsWithin files (source_input name))), inl (refl, (fault, refl, record { bytes = bytes; there = there; judged = judged })))
-
--- a file that gives no source has the status of its fault
-pub refused_caused : (files : List File) (file bytes : List ℕ) (fault : SourceFault) → contents files file ≡ Some bytes → ¬ (fault ≡ Changed) → Answers longest (Err fault) bytes → CheckCaused file files (refusal_status fault)
-refused_caused files file bytes (Bad link packet fault) there never judged = bad_caused files file bytes (InPacket link packet judged.0 fault) there judged.1
-refused_caused files file bytes (Page at fault) there never judged = bad_caused files file bytes (InPage at fault) there judged
-refused_caused files file bytes (Link at fault) there never judged = bad_caused files file bytes (InLink at fault) there judged
-refused_caused files file bytes (TooLong size) there never judged = (All-cons (λ limited. IsThere files limited.name) (source_input file) [] (there_of files file bytes there) (All-nil (λ limited. IsThere files limited.name)), inl (refl, (bytes, there, judged.0, judged.1)))
-refused_caused files file bytes ReadFault there never judged = tt
-refused_caused files file bytes Changed there never judged = absurd (never refl)
-refused_caused files file bytes NoMem there never judged = tt
-
 -- a truth value counts for at most one
 pub byte_small : (key : Bool) → bool_byte key ≤ 1
 byte_small true = omega arith
 byte_small false = omega arith
 
--- its status is one of those that come before a check has its source
-pub refused_checking : (fault : SourceFault) → ¬ (fault ≡ Changed) → IsChecking (refusal_status fault)
-refused_checking (Bad link packet fault) never = tt
-refused_checking (Page at fault) never = tt
-refused_checking (Link at fault) never = tt
-refused_checking (TooLong size) never = tt
-refused_checking ReadFault never = tt
-refused_checking Changed never = absurd (never refl)
-refused_checking NoMem never = tt
-
 -- a file with an index is sound
-pub sound_of : (files : List File) (file : List ℕ) (index : Index) → IsRead files file index → IsSound files file
+pub sound_of : (files : List File) (file : List ℕ) (index : Index) → HasIndex files file index → IsSound files file
 sound_of files file index read = (read.indexed.packets, record { bytes = read.bytes; there = read.there; judged = (read.short, read.indexed.judged) })
 
 -- all marks were counted

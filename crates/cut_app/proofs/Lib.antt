@@ -1,3 +1,8 @@
+mod JudgeLemmas
+mod RunLemmas
+mod PlanLemmas
+mod FindingLemmas
+mod PlanCauseLemmas
 mod CauseLemmas
 mod CheckLemmas
 mod SayingLemmas

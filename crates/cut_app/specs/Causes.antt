@@ -3,10 +3,11 @@ use Rattle.std.specs.Prelude.{◌≡◌, ⊤, ℕ, List, [], ◌∷◌, Option, 
 use Rattle.vid_desk.specs.Meaning.{File}
 use Rattle.src_index.specs.declared.fault.Fault.{Fault}
 use Rattle.src_index.specs.declared.fault.Fault.TheVariants.{InPacket, InPage, InLink}
-use Rattle.src_index.specs.declared.fault.SourceFault.{SourceFault}
-use Rattle.src_index.specs.declared.fault.SourceFault.TheVariants.{Bad, Page as PageFault, Link as LinkFault, TooLong as LongFile, ReadFault as ReadFailed, Changed as IsAnother, NoMem as NoMemory}
 use Rattle.src_index.specs.Loading.{longest}
-use Rattle.cut_desk.specs.Inputs.{First, IsMissing, IsTooLong, IsWithin, Limited}
+use Rattle.cut_list.specs.EditList.{list_of}
+use Rattle.cut_list.specs.Slices.{Slices}
+use Rattle.cut_plan.specs.declared.run.Run.{Run}
+use Rattle.cut_desk.specs.Inputs.{longest_list, First, IsMissing, IsTooLong, IsWithin, Limited}
 use Rattle.cut_desk.specs.Statuses.{IsOutside}
 use Rattle.cut_slice.specs.Cause.{Caused}
 use Rattle.cut_report.specs.declared.status.SourceWhat.{SourceWhat}
@@ -14,8 +15,9 @@ use Rattle.cut_report.specs.declared.status.SourceWhat.TheVariants.{Packet, Page
 use Rattle.cut_report.specs.declared.status.Status.{Status}
 use Rattle.cut_report.specs.declared.status.Status.TheVariants.{Done, Usage, NoFile, BadSource, BadList, Range, ReadFault, WriteFault, NoMem, TooLong, SameName, Changed, InPointNotKey, NotYet}
 use Rattle.cut_app.specs.Forms.{Form}
-use Rattle.cut_app.specs.Forms.Form.{Checking, Cutting}
-use Rattle.cut_app.specs.Texts.{IsFound}
+use Rattle.cut_app.specs.Forms.Form.{Checking, Cutting, Planning}
+use Rattle.cut_app.specs.Found.{IsFound}
+use Rattle.cut_app.specs.Plans.{HasRuns, IsRead, Plan, plan_over}
 
 -- the first check that fails, as a status names it
 abbrev pub what_of : Fault → SourceWhat
@@ -23,19 +25,13 @@ what_of (InPacket link packet at fault) = Packet link packet fault
 what_of (InPage at fault) = Page at fault
 what_of (InLink at fault) = Link at fault
 
--- the first file of a check is its only input and its only source
-abbrev pub first_file : ℕ
-first_file = 1
+-- the one source of a command
+abbrev pub one_source : ℕ
+one_source = 1
 
--- the status of a check whose file gives no source
-abbrev pub refusal_status : SourceFault → Status
-refusal_status (Bad link packet fault) = BadSource first_file (Packet link packet fault)
-refusal_status (PageFault at fault) = BadSource first_file (what_of (InPage at fault))
-refusal_status (LinkFault at fault) = BadSource first_file (what_of (InLink at fault))
-refusal_status (LongFile size) = TooLong first_file size
-refusal_status NoMemory = NoMem
-refusal_status ReadFailed = ReadFault
-refusal_status IsAnother = Changed
+-- an input that is a list, and how many bytes it may have
+abbrev pub list_input : List ℕ → Limited
+list_input name = record { name = name; most = longest_list }
 
 -- an input that is a source, and how many bytes it may have
 abbrev pub source_input : List ℕ → Limited
@@ -71,26 +67,27 @@ CheckCaused file files (Range line) = ⊥
 CheckCaused file files InPointNotKey = ⊥
 CheckCaused file files NotYet = ⊥
 
--- statuses that come before a check has its source
-abbrev pub IsChecking : Status → Type 0
-IsChecking (NoFile input) = ⊤
-IsChecking (BadSource source what) = ⊤
-IsChecking (TooLong input size) = ⊤
-IsChecking ReadFault = ⊤
-IsChecking NoMem = ⊤
-IsChecking Done = ⊥
-IsChecking Usage = ⊥
-IsChecking Changed = ⊥
-IsChecking SameName = ⊥
-IsChecking (BadList line why) = ⊥
-IsChecking (Range line) = ⊥
-IsChecking WriteFault = ⊥
-IsChecking InPointNotKey = ⊥
-IsChecking NotYet = ⊥
+-- the cause of each status of a plan: the source is judged before the list is read
+abbrev pub PlanCaused : Plan → List File → Status → Type 0
+PlanCaused plan files Done = (runs : List Run) × HasRuns files plan runs
+PlanCaused plan files (NoFile input) = IsMissing files (plan.list ∷ plan.source ∷ []) input
+PlanCaused plan files (TooLong input size) = IsTooLong files (list_input plan.list ∷ source_input plan.source ∷ []) input size
+PlanCaused plan files (BadSource source what) = IsWithin files (list_input plan.list) × IsBad files (plan.source ∷ []) source what
+PlanCaused plan files (BadList line why) = (text : List ℕ) × (packets : List (List ℕ)) × IsRead files plan text packets × (list_of text ≡ Err (record { line = line; why = why }))
+PlanCaused plan files (Range line) = (text : List ℕ) × (packets : List (List ℕ)) × (slices : Slices) × IsRead files plan text packets × (list_of text ≡ Ok slices) × (plan_over packets slices ≡ Err line)
+PlanCaused plan files ReadFault = ⊤
+PlanCaused plan files WriteFault = ⊤
+PlanCaused plan files NoMem = ⊤
+PlanCaused plan files Usage = ⊥
+PlanCaused plan files SameName = ⊥
+PlanCaused plan files Changed = ⊥
+PlanCaused plan files InPointNotKey = ⊥
+PlanCaused plan files NotYet = ⊥
 
 -- the cause of each status of a command
 abbrev pub FormCaused : Form → List File → Status → Type 0
 FormCaused (Checking file) files status = CheckCaused file files status
+FormCaused (Planning plan) files status = PlanCaused plan files status
 FormCaused (Cutting cut) files status = Caused cut files status
 
 -- the same of words, which may have no form; then they are Usage, or no memory was found to say so

@@ -1,6 +1,9 @@
+pub mod Found
+pub mod Plans
 pub mod Forms
 pub mod Views
 pub mod Texts
-pub mod Index
 pub mod Causes
+pub mod Index
+pub mod Steps
 pub mod Commands

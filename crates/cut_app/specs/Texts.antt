@@ -1,5 +1,5 @@
 -- What a command says (own).
-use Rattle.std.specs.Prelude.{◌≡◌, ℕ, Bool, true, false, List, [], ◌++◌, length, filter, Option, Some, Ok, ◌⊎◌}
+use Rattle.std.specs.Prelude.{◌≡◌, ℕ, Bool, true, false, List, [], ◌++◌, length, filter, Option, Ok, ◌⊎◌}
 use Rattle.std.specs.Option.{option_map}
 use Rattle.vid_desk.specs.Meaning.{File, Meaning, ToldFiles, Rose}
 use Rattle.ogg_link.specs.Track.{is_key}
@@ -7,20 +7,13 @@ use Rattle.thr_ident.specs.declared.ident.Ident.{Ident}
 use Rattle.thr_ident.specs.Ident.{ident_of, header_of}
 use Rattle.src_index.specs.Track.{frames_of, packet_at}
 use Rattle.src_index.specs.Seekable.{IsSeekable}
-use Rattle.src_index.specs.Judge.{Verdict}
-use Rattle.src_index.specs.Loading.{IsJudged, longest}
-use Rattle.cut_desk.specs.Inputs.{contents}
 use Rattle.cut_report.specs.Lines.{fault_text, link_text, seekable_text}
 use Rattle.cut_report.specs.declared.status.Status.{Status}
 use Rattle.cut_report.specs.declared.status.Status.TheVariants.{Done, Usage, NoFile, BadSource, BadList, Range, ReadFault, WriteFault, NoMem, TooLong, SameName, Changed, InPointNotKey, NotYet}
+use Rattle.cut_app.specs.Found.{IsFound}
+use Rattle.cut_app.specs.Plans.{IsPlanText}
 use Rattle.cut_app.specs.Forms.{Form}
-use Rattle.cut_app.specs.Forms.Form.{Checking, Cutting}
-
--- the file of that name is there, it is not too long, and judging it finds this
-pub record IsFound (files : List File) (name : List ℕ) (verdict : Verdict) : Type 0 where
-  pub bytes : List ℕ
-  pub there : contents files name ≡ Some bytes
-  pub judged : IsJudged longest bytes verdict
+use Rattle.cut_app.specs.Forms.Form.{Checking, Cutting, Planning}
 
 -- how many of these packets of a track are key frames
 abbrev pub key_count : List (List ℕ) → ℕ
@@ -44,6 +37,7 @@ pub record IsCheckText (files : List File) (file text : List ℕ) : Type 0 where
 -- the text of a command that was done, by its inputs and by the outputs that it left, where these are told; a cut says nothing
 abbrev pub IsTextOf : Form → List File → Option (List File) → List ℕ → Type 0
 IsTextOf (Checking file) files outputs text = IsCheckText files file text
+IsTextOf (Planning plan) files outputs text = IsPlanText files plan text
 IsTextOf (Cutting cut) files outputs text = text ≡ []
 
 -- this text was said

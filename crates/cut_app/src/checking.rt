@@ -6,18 +6,20 @@ ghost use Rattle.cut_desk.specs.Statuses.{status_in};
 ghost use Rattle.cut_app.specs.Forms.Form.{Checking};
 ghost use Rattle.cut_app.specs.Texts.{HasSaid, IsCheckText, StopsAt};
 ghost use Rattle.src_index.specs.Index.{keys_of};
-ghost use Rattle.cut_app.specs.Index.{marked, IsIndexText, IsRead};
-ghost use Rattle.cut_app.specs.Causes.{refusal_status, CheckCaused, IsChecking};
+ghost use Rattle.cut_app.specs.Index.{marked, HasIndex, IsIndexText};
+ghost use Rattle.cut_app.specs.Steps.{IsReading};
+ghost use Rattle.cut_app.specs.Causes.{CheckCaused};
 ghost use Rattle.cut_app.specs.Commands.{ReadsAndSays};
 
+use crate::judging::judge;
 use cut_desk::{reading, writing};
-use cut_report::{SourceWhat, Status, link_line, seekable_line};
-use src_index::{Source, SourceFault};
+use cut_report::{Status, link_line, seekable_line};
+use src_index::Source;
 use std::alloc::Global;
 use vid_base::NoMem;
 use vid_desk::Desk;
 
-/// The file of a check is its first input, and its first source.
+/// The file of a check is its first input.
 const FIRST: u32 = 1;
 
 /// A source has one link, the first.
@@ -50,60 +52,24 @@ fn check_text(alloc: Global, source: &Source) -> Result<Vec<u8>, NoMem>
     Ok(text)
 }
 
-// The status of a file in which a check fails.
-fn bad(what: SourceWhat) -> Status
-    ensures { result ≡ Status.BadSource 1 what }
-{
-    Status::BadSource {
-        source: FIRST,
-        what,
-    }
-}
-
-// The status of a file that gives no source.
-fn refused(fault: SourceFault) -> Status
-    ensures { result ≡ refusal_status fault }
-{
-    match fault {
-        SourceFault::Bad {
-            link,
-            packet,
-            fault,
-        } => bad(SourceWhat::Packet {
-            link,
-            packet,
-            fault,
-        }),
-        SourceFault::Page { at, fault } => bad(SourceWhat::Page { at, fault }),
-        SourceFault::Link { at, fault } => bad(SourceWhat::Link { at, fault }),
-        SourceFault::TooLong { bytes } => Status::TooLong {
-            input: FIRST,
-            bytes,
-        },
-        SourceFault::NoMem => Status::NoMem,
-        SourceFault::ReadFault => Status::ReadFault,
-        SourceFault::Changed => Status::Changed,
-    }
-}
-
 // Looks for the file and judges it.
-fn judge<D: Desk>(alloc: Global, desk: &mut D, file: &str) -> Result<Source, Status>
-    ensures found { IfOk result (λ source. ToldFiles (D.sees desk.old) (λ files. IsRead files file.now source)) }
+fn judge_file<D: Desk>(alloc: Global, desk: &mut D, file: &str) -> Result<Source, Status>
+    ensures found { IfOk result (λ source. ToldFiles (D.sees desk.old) (λ files. HasIndex files file.now source)) }
     ensures caused { IfErr result (λ status. ToldFiles (D.sees desk.old) (λ files. CheckCaused file.now files status)) }
     ensures names { Seeks (D.sees desk.old).sought (D.sees desk.new).sought (file.now ∷ []) }
     ensures kept { Looks (D.sees desk.old) (D.sees desk.new) }
     ensures count { (D.sees desk.old).read_faults ≤ (D.sees desk.new).read_faults }
     ensures read { IsErrOf result Status.ReadFault → Rose (D.sees desk.old).read_faults (D.sees desk.new).read_faults }
-    ensures only { IfErr result IsChecking }
+    ensures only { IfErr result IsReading }
 {
     let id = match desk.find(file) {
         Ok(Some(id)) => id,
         Ok(None) => return Err(Status::NoFile { input: FIRST }),
         Err(fault) => return Err(reading(fault)),
     };
-    match Source::load(alloc, desk, id) {
+    match judge(alloc, desk, id, FIRST) {
         Ok(source) => Ok(source),
-        Err(fault) => Err(refused(fault)),
+        Err(status) => Err(status),
     }
 }
 
@@ -120,7 +86,7 @@ pub(crate) fn check<D: Desk>(alloc: Global, desk: &mut D, file: &str) -> Result<
     ensures usage { ¬ IsErrOf result Status.Usage }
     ensures done { ¬ IsErrOf result Status.Done }
 {
-    let source = match judge(alloc, desk, file) {
+    let source = match judge_file(alloc, desk, file) {
         Ok(source) => source,
         Err(status) => return Err(status),
     };

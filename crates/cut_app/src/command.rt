@@ -10,6 +10,7 @@ ghost use Rattle.cut_app.specs.Causes.{CausedBy, FormCaused, IsOnly};
 ghost use Rattle.cut_app.specs.Commands.{Completes, CreatesWhenGiven, MakesOnly, SaysBy, Tells, WrittenBy};
 
 use crate::checking::check;
+use crate::planning::say_plan;
 use crate::words::{Command, command_of};
 use cut_report::{Status, fault_line};
 use cut_slice::cut;
@@ -48,6 +49,7 @@ fn run<D: Desk>(alloc: Global, desk: &mut D, command: Command) -> Result<(), Sta
 {
     match command {
         Command::Check { file } => check(alloc, desk, file),
+        Command::Plan { list, source } => say_plan(alloc, desk, list, source),
         Command::Cut { list, out, source } => cut(alloc, desk, list, out, source),
     }
 }
@@ -57,6 +59,10 @@ fn run<D: Desk>(alloc: Global, desk: &mut D, command: Command) -> Result<(), Sta
 /// `check FILE` judges a file on the heads of its frames. The order of refusals is: the words; the file that is not there;
 /// a file of more than 2^40 bytes; the first check that fails. It says a line for the file's link, and whether the file is
 /// seekable.
+///
+/// `plan LIST SRC` says the runs of the list over the source, a line each, and how many frames are copied and coded. The order
+/// of refusals is: the words; inputs that are not there, in the order of the words; a list of more than 2^20 bytes, a source of
+/// more than 2^40; the source, as `check` judges it; the first bad line of the list; its first line out of range.
 ///
 /// `cut LIST OUT SRC` copies the slice of the list LIST out of the plain source SRC into the new output OUT. The order
 /// of refusals is: the words; names that are the same; inputs that are not there, in the order of the words; the form

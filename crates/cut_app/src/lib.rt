@@ -3,10 +3,16 @@
 
 mod checking;
 mod command;
+mod judging;
+mod listing;
+mod planning;
+mod runs;
 mod words;
 
 pub use command::oggcut;
 pub use cut_report::Status;
 
+#[cfg(test)]
+mod plan_tests;
 #[cfg(test)]
 mod tests;

@@ -19,7 +19,7 @@ const COMMENT: [u8; 21] = [
     0x74, 0x00, 0x00, 0x00, 0x00,
 ];
 
-const KEY: [u8; 5] = [0x1e, 0x00, 0x01, 0xc0, 0x00];
+pub(crate) const KEY: [u8; 5] = [0x1e, 0x00, 0x01, 0xc0, 0x00];
 
 // The first 33 bits of the trees of the setup header, each where it is 1.
 const A_TREE_OF_33_ZEROS: [(u8, usize, u8); 5] = [
@@ -63,7 +63,7 @@ fn total(lacing: &[u8]) -> usize
 }
 
 // One more page of the stream.
-fn add(
+pub(crate) fn add(
     rt: &impl Abort,
     file: &mut Vec<u8>,
     flags: u8,
@@ -84,7 +84,11 @@ fn add(
 
 // The headers' pages: the identification header alone, and the two others. Their packets are changed: which of the three,
 // at which byte, and which bits of it.
-fn headers(rt: &(impl Abort + AllocGlobal), changes: &[(u8, usize, u8)], flags: u8) -> Vec<u8> {
+pub(crate) fn headers(
+    rt: &(impl Abort + AllocGlobal),
+    changes: &[(u8, usize, u8)],
+    flags: u8,
+) -> Vec<u8> {
     let mut ident = IDENT;
     let mut others = Vec::new(rt.alloc());
     assert!(rt; others.extend_from_slice(&COMMENT).is_ok());
@@ -235,12 +239,16 @@ fn a_frame_may_not_stand_too_far_behind_its_key_frame(rt: HostRuntime) {
 
 #[test]
 fn words_and_inputs_have_their_lines(rt: HostRuntime) {
-    let rows: [(&[&str], u8, &str); 9] = [
+    let rows: [(&[&str], u8, &str); 13] = [
         (&[], 2, "fault 2 usage\n"),
         (&["cut"], 2, "fault 2 usage\n"),
         (&["check"], 2, "fault 2 usage\n"),
         (&["check", "S", "S"], 2, "fault 2 usage\n"),
         (&["copy", "L", "O", "S"], 2, "fault 2 usage\n"),
+        (&["plan"], 2, "fault 2 usage\n"),
+        (&["plan", "S"], 2, "fault 2 usage\n"),
+        (&["plan", "X", "Y"], 3, "fault 3 input 1 missing\n"),
+        (&["plan", "S", "X"], 3, "fault 3 input 2 missing\n"),
         (&["check", "X"], 3, "fault 3 input 1 missing\n"),
         (&["cut", "S", "O", "X"], 3, "fault 3 input 2 missing\n"),
         (&["cut", "S", "S", "S"], 19, "fault 19 form\n"),

@@ -15,6 +15,10 @@ pub(crate) enum Command<'a> {
         out: &'a str,
         source: &'a str,
     },
+    Plan {
+        list: &'a str,
+        source: &'a str,
+    },
 }
 
 /// The command of words that have a form.
@@ -24,6 +28,12 @@ pub(crate) fn command_of<'a>(words: &[&'a str]) -> Option<Command<'a>>
     if let [command, file] = words {
         if *command == "check" {
             return Some(Command::Check { file });
+        }
+        return None;
+    }
+    if let [command, list, source] = words {
+        if *command == "plan" {
+            return Some(Command::Plan { list, source });
         }
         return None;
     }

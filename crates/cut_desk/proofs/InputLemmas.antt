@@ -1,8 +1,9 @@
 -- Inputs by their names, and the first of a list. Commands cite these.
-use Rattle.std.proofs.Common.{◌≡◌, ℕ, suc, List, [], ◌∷◌, inl, inr, Option, Some, None, IsSome, ap, refl, sym, ◌∙◌}
+use Rattle.std.proofs.Common.{◌≡◌, ℕ, suc, ◌+◌, length, All, arith, List, [], ◌∷◌, inl, inr, Option, Some, None, IsSome, ap, refl, sym, ◌∙◌}
 use Rattle.std.specs.Option.{option_map}
+use Rattle.std.proofs.lemmas.List.Elements.{All-head, All-tail}
 use Rattle.vid_desk.specs.Meaning.{File, Meaning, place_of, bytes_at}
-use Rattle.cut_desk.specs.Inputs.{contents, First, IsThere, IsAbsent}
+use Rattle.cut_desk.specs.Inputs.{contents, First, IsThere, IsAbsent, IsMissing, IsTooLong, IsWithin, IsOverlong, Limited}
 use Rattle.cut_desk.specs.Outputs.{Looks, Makes}
 
 -- the bytes of the input that was found
@@ -38,6 +39,55 @@ one_first good bad apart n (x ∷ xs) a b h k = elim h [
     | inr second ↦ one_first good bad apart (suc n) xs a b first.1 second.1
   ]
 ]
+
+-- nor is one bad where all are good
+pub none_first : {A : Type 0} (good bad : A → Type 0) → ((x : A) → good x → bad x → ⊥) → (n : ℕ) (xs : List A) (a : ℕ) → All good xs → First good bad n xs a → ⊥
+none_first good bad apart n [] a all first = absurd first
+none_first good bad apart n (x ∷ xs) a all first = elim first [
+  | inl here ↦ apart x (All-head good x xs all) here.1
+  | inr later ↦ none_first good bad apart (suc n) xs a (All-tail good x xs all) later.1
+]
+
+-- an input is not within its limit and above it at once, and has one size
+within_or_long : (files : List File) (size : ℕ) (input : Limited) → IsWithin files input → IsOverlong files size input → ⊥
+within_or_long files size input within long =
+    let same : within.0 ≡ long.0 = cc (within.1, long.1) in
+    omega (arith, within.2, long.3, ap length same)
+
+one_size : (files : List File) (size other : ℕ) (input : Limited) → IsOverlong files size input → IsOverlong files other input → size ≡ other
+one_size files size other input long next =
+    let same : long.0 ≡ next.0 = cc (long.1, next.1) in
+    omega (arith, long.2, next.2, ap length same)
+
+-- one input is the first that is not there
+pub one_missing : (files : List File) (names : List (List ℕ)) (a b : ℕ) → IsMissing files names a → IsMissing files names b → a ≡ b
+one_missing files names a b h k = one_first (IsThere files) (IsAbsent files) (λ name there absent. there_or_absent files name there absent) 1 names a b h k
+
+-- where all are there, none is
+pub none_missing : (files : List File) (names : List (List ℕ)) (a : ℕ) → All (IsThere files) names → IsMissing files names a → ⊥
+none_missing files names a all missing = none_first (IsThere files) (IsAbsent files) (λ name there absent. there_or_absent files name there absent) 1 names a all missing
+
+-- one input is the first that is too long, and has one size
+one_long : (files : List File) (n : ℕ) (inputs : List Limited) (a b size other : ℕ) → First (IsWithin files) (IsOverlong files size) n inputs a → First (IsWithin files) (IsOverlong files other) n inputs b
+    → (a ≡ b) × (size ≡ other)
+one_long files n [] a b size other h k = absurd h
+one_long files n (x ∷ xs) a b size other h k = elim h [
+  | inl first ↦ elim k [
+    | inl second ↦ (first.0 ∙ sym second.0, one_size files size other x first.1 second.1)
+    | inr second ↦ absurd (within_or_long files size x second.0 first.1)
+  ]
+  | inr first ↦ elim k [
+    | inl second ↦ absurd (within_or_long files other x first.0 second.1)
+    | inr second ↦ one_long files (suc n) xs a b size other first.1 second.1
+  ]
+]
+
+pub one_too_long : (files : List File) (inputs : List Limited) (a b size other : ℕ) → IsTooLong files inputs a size → IsTooLong files inputs b other → (a ≡ b) × (size ≡ other)
+one_too_long files inputs a b size other h k = one_long files 1 inputs a b size other h.1 k.1
+
+-- where all are within their limits, none is
+pub none_too_long : (files : List File) (inputs : List Limited) (a size : ℕ) → All (IsWithin files) inputs → IsTooLong files inputs a size → ⊥
+none_too_long files inputs a size all long = none_first (IsWithin files) (IsOverlong files size) (λ input within over. within_or_long files size input within over) 1 inputs a all long.1
 
 -- what was made since reads is made since they began
 pub makes_since : (old mid new : Meaning) (name bytes : List ℕ) → Looks old mid → Makes mid new name bytes → Makes old new name bytes

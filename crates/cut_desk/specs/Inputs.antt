@@ -1,5 +1,5 @@
 -- What the inputs of a command hold, by their names, and the first of them that is refused (own).
-use Rattle.std.specs.Prelude.{◌≡◌, ℕ, suc, ◌<◌, ◌≤◌, List, [], ◌∷◌, length, Option, Some, None, IsSome, ◌⊎◌, All}
+use Rattle.std.specs.Prelude.{◌≡◌, ℕ, suc, ◌^◌, ◌<◌, ◌≤◌, List, [], ◌∷◌, length, Option, Some, None, IsSome, ◌⊎◌, All}
 use Rattle.std.specs.Option.{option_map}
 use Rattle.vid_desk.specs.Meaning.{File, place_of, bytes_at}
 
@@ -28,6 +28,10 @@ IsMissing files names input = First (IsThere files) (IsAbsent files) 1 names inp
 pub record Limited : Type 0 where
   pub name : List ℕ
   pub most : ℕ
+
+-- the most bytes of a list
+abbrev pub longest_list : ℕ
+longest_list = 2 ^ 20
 
 -- the input is there and has no more bytes than it may have
 abbrev pub IsWithin : List File → Limited → Type 0

@@ -1,11 +1,11 @@
 -- When each status comes, over inputs that are told (own).
-use Rattle.std.specs.Prelude.{◌≡◌, ⊤, ℕ, ◌-◌, ◌^◌, ◌<◌, ◌≤◌, true, false, List, [], ◌∷◌, length, take, drop, Some, None, ◌⊎◌, slice_get}
+use Rattle.std.specs.Prelude.{◌≡◌, ⊤, ℕ, ◌-◌, ◌<◌, ◌≤◌, true, false, List, [], ◌∷◌, length, take, drop, Some, None, ◌⊎◌, slice_get}
 use Rattle.std.specs.Option.{option_map_or}
 use Rattle.vid_desk.specs.Meaning.{File, Meaning}
 use Rattle.ogg_link.specs.Track.{is_key}
 use Rattle.ogg_mux.specs.OutputPages.{paged}
 use Rattle.cut_slice.specs.Words.{Cut, clashes}
-use Rattle.cut_desk.specs.Inputs.{contents, IsMissing}
+use Rattle.cut_desk.specs.Inputs.{contents, longest_list, IsMissing}
 use Rattle.cut_desk.specs.Outputs.{LeavesOutputs, Makes}
 use Rattle.cut_slice.specs.SliceList.{Slice, slice_of}
 use Rattle.cut_slice.specs.Plain.{Packets, IsPlain, NotPlain, stream_of}
@@ -50,10 +50,6 @@ pub record GivesBoth (files : List File) (list source : List ℕ) (slice : Slice
   pub list_is : contents files list ≡ Some text
   pub source_is : contents files source ≡ Some bytes
   pub slice_is : slice_of text ≡ Some slice
-
--- the most bytes of a list
-abbrev pub longest_list : ℕ
-longest_list = 2 ^ 20
 
 -- a list of more bytes is not read
 abbrev pub SparesLong : Meaning → Meaning → List File → List ℕ → Type 0

@@ -2,3 +2,6 @@ use Rattle.cut_app.proofs.command.run.Goals as goal
 
 pub returns-in-Check-clause-stops : goal.returns-in-Check-clause-stops
 returns-in-Check-clause-stops g c = rw c.in-Check.is c.check.ensures.stops
+
+pub returns-in-Plan-clause-stops : goal.returns-in-Plan-clause-stops
+returns-in-Plan-clause-stops g c = rw c.in-Plan.is c.say_plan.ensures.stops
