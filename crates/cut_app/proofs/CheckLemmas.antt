@@ -1,5 +1,5 @@
 -- Checks: counting key frames, and the cause of each refusal. The command `check` cites these.
-use Rattle.std.proofs.Common.{◌≡◌, ℕ, ◌+◌, ◌<◌, ◌≤◌, List, [], suc, ◌∷◌, ◌++◌, length, take, get_or, map, Bool, true, false, Some, Err, refl, ap, sym, inl, ◌∙◌, arith, if◌then◌else◌}
+use Rattle.std.proofs.Common.{◌≡◌, ℕ, ◌+◌, ◌<◌, ◌≤◌, List, [], suc, ◌∷◌, ◌++◌, length, take, get_or, map, Bool, true, false, refl, ap, sym, ◌∙◌, arith, if◌then◌else◌}
 use Rattle.std.specs.List.{filter}
 use mir.Val.{bool_byte}
 use Rattle.std.proofs.lemmas.List.{take_more, take_all, length-append, length-drop, length-map}
@@ -8,7 +8,6 @@ use Rattle.vid_desk.specs.Meaning.{File}
 use Rattle.ogg_link.specs.Track.{is_key}
 use Rattle.src_index.specs.Index.{Index, frame_count, keys_of}
 use Rattle.src_index.specs.Track.{frames_of}
-use Rattle.src_index.specs.Loading.{IsJudged, longest}
 use Rattle.src_index.proofs.IndexLemmas.{index_count, index_keys}
 use Rattle.thr_ident.specs.Ident.{ident_of}
 use Rattle.cut_report.specs.Lines.{link_text, seekable_text}

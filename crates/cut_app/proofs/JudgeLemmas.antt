@@ -1,17 +1,17 @@
 -- Why an input gives no source, and what that is to a check and to a plan. The commands cite these.
-use Rattle.std.proofs.Common.{◌≡◌, ℕ, ◌≤◌, List, [], ◌∷◌, length, All, Some, Ok, Err, refl, ap, sym, inl, inr, ◌∙◌, arith}
+use Rattle.std.proofs.Common.{◌≡◌, ℕ, ◌≤◌, List, [], ◌∷◌, length, All, Some, Err, refl, inl, inr}
 use Rattle.std.proofs.lemmas.List.Elements.{All-cons, All-nil}
 use Rattle.vid_desk.specs.Meaning.{File}
 use Rattle.src_index.specs.declared.fault.Fault.TheVariants.{InPacket, InPage, InLink}
 use Rattle.src_index.specs.declared.fault.SourceFault.{SourceFault}
 use Rattle.src_index.specs.declared.fault.SourceFault.TheVariants.{Bad, Page, Link, TooLong as LongFile, ReadFault as ReadFailed, Changed as IsAnother, NoMem as NoMemory}
 use Rattle.src_index.specs.Loading.{Answers, longest}
-use Rattle.cut_desk.specs.Inputs.{contents, longest_list, IsThere, IsTooLong, IsWithin, Limited}
+use Rattle.cut_desk.specs.Inputs.{contents, longest_list, IsThere, IsWithin}
 use Rattle.cut_desk.proofs.InputLemmas.{there_of}
 use Rattle.cut_report.specs.declared.status.Status.{Status}
 use Rattle.cut_report.specs.declared.status.Status.TheVariants.{Done, Usage, NoFile, BadSource, BadList, Range, ReadFault, WriteFault, NoMem, TooLong, SameName, Changed, InPointNotKey, NotYet}
 use Rattle.cut_report.specs.declared.status.SourceWhat.{SourceWhat}
-use Rattle.cut_app.specs.Causes.{list_input, one_source, source_input, CheckCaused, HasFault, IsBad, PlanCaused}
+use Rattle.cut_app.specs.Causes.{list_input, source_input, CheckCaused, IsBad, PlanCaused}
 use Rattle.cut_app.specs.Index.{refusal_status}
 use Rattle.cut_app.specs.Plans.{Plan}
 use Rattle.cut_app.specs.Steps.{IsReading, RefusesSource}

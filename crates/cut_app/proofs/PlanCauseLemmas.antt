@@ -1,9 +1,8 @@
 -- The causes of two statuses of a plan exclude each other, but for the faults of a desk and want of memory.
 use Rattle.std.proofs.Common.{◌≡◌, ℕ, ◌≤◌, List, [], ◌∷◌, length, All, Result, Some, Ok, Err, inl, inr, ◌⊎◌, refl, ap, sym, ◌∙◌, arith}
-use Rattle.std.proofs.lemmas.List.Elements.{All-cons, All-head, All-nil}
+use Rattle.std.proofs.lemmas.List.Elements.{All-cons, All-nil}
 use Rattle.vid_desk.specs.Meaning.{File}
 use Rattle.src_index.specs.Judge.{Verdict}
-use Rattle.src_index.specs.Loading.{longest}
 use Rattle.cut_list.specs.EditList.{BadLine, list_of}
 use Rattle.cut_list.specs.Slices.{Slices}
 use Rattle.cut_plan.specs.declared.run.Run.{Run}

@@ -1,8 +1,8 @@
 -- The text of a plan, and the causes of its refusals. The command `plan` cites these.
-use Rattle.std.proofs.Common.{◌≡◌, ℕ, ◌≤◌, ◌<◌, List, [], ◌∷◌, length, map, Some, Ok, Err, refl, ap, sym, inl, inr, ◌∙◌, arith}
+use Rattle.std.proofs.Common.{◌≡◌, ℕ, ◌≤◌, ◌<◌, List, [], ◌∷◌, length, map, Some, Ok, refl, ap, sym, inl, inr, ◌∙◌, arith}
 use Rattle.std.proofs.lemmas.List.{length-drop}
-use Rattle.vid_desk.specs.Meaning.{File}
-use Rattle.ogg_page.specs.Granule.{is_key}
+use Rattle.vid_desk.specs.Meaning.{File, bytes_at, place_of}
+use Rattle.ogg_link.specs.Track.{is_key}
 use Rattle.src_index.specs.Index.{Index, frame_count, keys_of}
 use Rattle.src_index.specs.Loading.{IsIndexed, longest}
 use Rattle.src_index.specs.Track.{frames_of}
@@ -11,6 +11,7 @@ use Rattle.cut_list.specs.EditList.{list_of}
 use Rattle.cut_list.specs.Slices.{Slices}
 use Rattle.cut_plan.specs.Runs.{plan_of}
 use Rattle.cut_desk.specs.Inputs.{contents, longest_list, IsTooLong}
+use Rattle.cut_desk.proofs.InputLemmas.{contents_is}
 use Rattle.cut_report.specs.declared.status.Status.{Status}
 use Rattle.cut_report.specs.declared.status.Status.TheVariants.{Done, Usage, NoFile, BadSource, BadList, Range, ReadFault, WriteFault, NoMem, TooLong, SameName, Changed, InPointNotKey, NotYet}
 use Rattle.cut_app.specs.Causes.{list_input, source_input, PlanCaused}
@@ -35,6 +36,18 @@ pub record GivesIndex (files : List File) (plan : Plan) (text : List ℕ) (index
   pub source_is : contents files plan.source ≡ Some bytes
   pub few : length bytes ≤ longest
   pub indexed : IsIndexed bytes index
+
+-- so say the places and sizes that were found
+pub gives_of : (files : List File) (plan : Plan) (list source size : ℕ) (index : Index) → place_of files plan.list ≡ Some list → place_of files plan.source ≡ Some source
+    → size ≡ length (bytes_at files list) → size ≤ longest_list → (length (bytes_at files source) ≤ longest) × IsIndexed (bytes_at files source) index → GivesIndex files plan (bytes_at files list) index
+gives_of files plan list source size index here there is short judged = record {
+  bytes = bytes_at files source;
+  list_is = contents_is files plan.list list (bytes_at files list) here refl;
+  short = omega (arith, is, short);
+  source_is = contents_is files plan.source source (bytes_at files source) there refl;
+  few = judged.0;
+  indexed = judged.1;
+}
 
 -- then these are the packets of the source
 pub read_of : (files : List File) (plan : Plan) (text : List ℕ) (index : Index) (gives : GivesIndex files plan text index) → IsRead files plan text gives.indexed.packets

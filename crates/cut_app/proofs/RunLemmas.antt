@@ -1,6 +1,5 @@
 -- Runs, one by one. The loop over the runs of a plan cites these.
-use Rattle.std.proofs.Common.{◌≡◌, ℕ, ◌+◌, ◌<◌, suc, List, [], ◌∷◌, length, drop, get_or, ap, sym, ◌∙◌, drop-cons, add-one}
-use Rattle.std.proofs.Math.ListN.{drop_of_length-le}
+use Rattle.std.proofs.Common.{◌≡◌, ℕ, ◌+◌, ◌<◌, suc, List, ◌∷◌, length, drop, get_or, ap, sym, ◌∙◌, drop-cons, add-one}
 use Rattle.cut_plan.specs.declared.run.Run.{Run}
 
 -- the runs that are left are the next and those behind it

@@ -1,7 +1,7 @@
 -- What a plan says, and what it is made of (own).
 use Rattle.std.specs.Prelude.{◌≡◌, ℕ, ◌≤◌, true, false, List, [], ◌∷◌, ◌++◌, length, map, Some, Result, Ok}
 use Rattle.vid_desk.specs.Meaning.{File}
-use Rattle.ogg_page.specs.Granule.{is_key}
+use Rattle.ogg_link.specs.Track.{is_key}
 use Rattle.src_index.specs.Track.{frames_of}
 use Rattle.cut_list.specs.Slices.{Slices}
 use Rattle.cut_list.specs.EditList.{list_of}

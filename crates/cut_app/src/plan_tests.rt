@@ -104,20 +104,26 @@ fn a_bad_source_comes_before_a_bad_list(rt: HostRuntime) {
     }
 }
 
+// A list of so many bytes, whose last line says nothing.
+fn long_list(rt: &(impl Abort + AllocGlobal), count: usize) -> Vec<u8> {
+    let text = b"oggcut 1\nslice 1 0 1\n";
+    let Ok(rest) = Vec::from_elem(rt.alloc(), b'#', count.saturating_sub(text.len())) else {
+        panic!(rt; "there is no list")
+    };
+    let mut list = Vec::new(rt.alloc());
+    assert!(rt; list.extend_from_slice(text).is_ok());
+    assert!(rt; list.extend_from_slice(&rest).is_ok());
+    list
+}
+
 #[test]
 fn a_list_of_1048577_bytes_is_too_long(rt: HostRuntime) {
     let source = thirty(&rt);
-    let Ok(mut list) = Vec::from_elem(rt.alloc(), b'#', 1_048_576) else {
-        panic!(rt; "there is no list")
-    };
-    let text = b"oggcut 1\nslice 1 0 1\n";
-    assert!(rt; list.len() > text.len());
-    list[..text.len()].copy_from_slice(text);
-    planned(&rt, &list, &source, 0, "copy 1 0 1\ncopied 1 coded 0\n");
-    assert!(rt; list.push(b'#').is_ok());
+    let text = "copy 1 0 1\ncopied 1 coded 0\n";
+    planned(&rt, &long_list(&rt, 1_048_576), &source, 0, text);
     let line = "fault 14 input 1 bytes 1048577\n";
-    planned(&rt, &list, &source, 14, line);
-    planned(&rt, &list, b"", 14, line);
+    planned(&rt, &long_list(&rt, 1_048_577), &source, 14, line);
+    planned(&rt, &long_list(&rt, 1_048_577), b"", 14, line);
 }
 
 #[test]

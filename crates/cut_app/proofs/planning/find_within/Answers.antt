@@ -1,4 +1,4 @@
-use Rattle.std.proofs.Common.{◌≡◌, Some, refl, ap, sym, ◌∙◌, arith}
+use Rattle.std.proofs.Common.{refl, arith}
 use Rattle.vid_desk.specs.Meaning.{bytes_at}
 use Rattle.cut_desk.proofs.InputLemmas.{contents_is}
 use Rattle.cut_app.specs.Plans.{Plan}

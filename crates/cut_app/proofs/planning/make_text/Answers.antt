@@ -1,10 +1,10 @@
-use Rattle.std.proofs.Common.{◌≡◌, Some, refl, ap, sym, ◌∙◌, arith}
+use Rattle.std.proofs.Common.{◌≡◌, Some, refl, ap, ◌∙◌, arith}
 use Rattle.vid_desk.specs.Meaning.{Meaning, bytes_at}
 use Rattle.cut_list.specs.Slices.{slices_view}
 use Rattle.cut_desk.proofs.InputLemmas.{contents_is}
 use Rattle.cut_app.specs.Plans.{Plan}
 use Rattle.cut_app.proofs.JudgeLemmas.{plan_refused}
-use Rattle.cut_app.proofs.PlanLemmas.{GivesIndex, list_refused, plan_by, range_refused, read_of}
+use Rattle.cut_app.proofs.PlanLemmas.{GivesIndex, gives_of, list_refused, plan_by, range_refused, read_of}
 use Rattle.cut_app.proofs.planning.make_text.Goals as goal
 
 pub returns-in-Err-judge-clause-caused : goal.returns-in-Err-judge-clause-caused
@@ -22,15 +22,8 @@ returns-in-Err-list_of-clause-caused g c = λ files told.
     let after : (g.D.Desk.sees c.find_within.new.desk).inputs ≡ Some files = ap {A = Meaning} (λ m. m.inputs) c.in-Ok.ensures.kept ∙ told in
     let later : (g.D.Desk.sees c.judge.new.desk).inputs ≡ Some files = ap {A = Meaning} (λ m. m.inputs) c.in-Ok-judge.ensures.kept ∙ after in
     let places = c.in-Ok.ensures.places files told in
-    let judged = c.in-Ok-judge.ensures.judged files after in
-    let gives : GivesIndex files names (bytes_at files c.in-Ok.inputs.list.id) c.in-Ok-judge.judged = record {
-      bytes = bytes_at files c.in-Ok.inputs.source.id;
-      list_is = contents_is files c.args.list.now c.in-Ok.inputs.list.id _ places.0 refl;
-      short = omega (arith, (c.in-Ok.ensures.sizes files told).0, c.in-Ok.ensures.within);
-      source_is = contents_is files c.args.source.now c.in-Ok.inputs.source.id _ places.1 refl;
-      few = judged.0;
-      indexed = judged.1;
-    } in
+    let gives : GivesIndex files names (bytes_at files c.in-Ok.inputs.list.id) c.in-Ok-judge.judged =
+    gives_of files names c.in-Ok.inputs.list.id c.in-Ok.inputs.source.id c.in-Ok.inputs.list.size c.in-Ok-judge.judged places.0 places.1 (c.in-Ok.ensures.sizes files told).0 c.in-Ok.ensures.within (c.in-Ok-judge.ensures.judged files after) in
     list_refused files names (bytes_at files c.in-Ok.inputs.list.id) c.in-Ok-judge.judged c.in-Err-list_of.status gives (c.in-Err-list_of.ensures.refused files later)
 
 pub returns-in-Err-runs_of-clause-caused : goal.returns-in-Err-runs_of-clause-caused
@@ -39,15 +32,8 @@ returns-in-Err-runs_of-clause-caused g c = λ files told.
     let after : (g.D.Desk.sees c.find_within.new.desk).inputs ≡ Some files = ap {A = Meaning} (λ m. m.inputs) c.in-Ok.ensures.kept ∙ told in
     let later : (g.D.Desk.sees c.judge.new.desk).inputs ≡ Some files = ap {A = Meaning} (λ m. m.inputs) c.in-Ok-judge.ensures.kept ∙ after in
     let places = c.in-Ok.ensures.places files told in
-    let judged = c.in-Ok-judge.ensures.judged files after in
-    let gives : GivesIndex files names (bytes_at files c.in-Ok.inputs.list.id) c.in-Ok-judge.judged = record {
-      bytes = bytes_at files c.in-Ok.inputs.source.id;
-      list_is = contents_is files c.args.list.now c.in-Ok.inputs.list.id _ places.0 refl;
-      short = omega (arith, (c.in-Ok.ensures.sizes files told).0, c.in-Ok.ensures.within);
-      source_is = contents_is files c.args.source.now c.in-Ok.inputs.source.id _ places.1 refl;
-      few = judged.0;
-      indexed = judged.1;
-    } in
+    let gives : GivesIndex files names (bytes_at files c.in-Ok.inputs.list.id) c.in-Ok-judge.judged =
+    gives_of files names c.in-Ok.inputs.list.id c.in-Ok.inputs.source.id c.in-Ok.inputs.list.size c.in-Ok-judge.judged places.0 places.1 (c.in-Ok.ensures.sizes files told).0 c.in-Ok.ensures.within (c.in-Ok-judge.ensures.judged files after) in
     range_refused files names (bytes_at files c.in-Ok.inputs.list.id) (slices_view c.in-Ok-list_of.items.slices.items) c.in-Ok-judge.judged c.in-Err-runs_of.status gives (c.in-Ok-list_of.ensures.listed files later) c.in-Err-runs_of.ensures.refused
 
 pub returns-in-Ok-text_of-clause-text : goal.returns-in-Ok-text_of-clause-text
@@ -56,15 +42,8 @@ returns-in-Ok-text_of-clause-text g c = λ files told.
     let after : (g.D.Desk.sees c.find_within.new.desk).inputs ≡ Some files = ap {A = Meaning} (λ m. m.inputs) c.in-Ok.ensures.kept ∙ told in
     let later : (g.D.Desk.sees c.judge.new.desk).inputs ≡ Some files = ap {A = Meaning} (λ m. m.inputs) c.in-Ok-judge.ensures.kept ∙ after in
     let places = c.in-Ok.ensures.places files told in
-    let judged = c.in-Ok-judge.ensures.judged files after in
-    let gives : GivesIndex files names (bytes_at files c.in-Ok.inputs.list.id) c.in-Ok-judge.judged = record {
-      bytes = bytes_at files c.in-Ok.inputs.source.id;
-      list_is = contents_is files c.args.list.now c.in-Ok.inputs.list.id _ places.0 refl;
-      short = omega (arith, (c.in-Ok.ensures.sizes files told).0, c.in-Ok.ensures.within);
-      source_is = contents_is files c.args.source.now c.in-Ok.inputs.source.id _ places.1 refl;
-      few = judged.0;
-      indexed = judged.1;
-    } in (
+    let gives : GivesIndex files names (bytes_at files c.in-Ok.inputs.list.id) c.in-Ok-judge.judged =
+    gives_of files names c.in-Ok.inputs.list.id c.in-Ok.inputs.source.id c.in-Ok.inputs.list.size c.in-Ok-judge.judged places.0 places.1 (c.in-Ok.ensures.sizes files told).0 c.in-Ok.ensures.within (c.in-Ok-judge.ensures.judged files after) in (
       c.in-Ok-runs_of.runs.items,
       record {
         text = bytes_at files c.in-Ok.inputs.list.id;
