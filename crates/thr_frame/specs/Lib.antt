@@ -1,0 +1,6 @@
+pub mod FrameHead
+pub mod QuantiserPlaces
+pub mod CodedFrame
+pub mod Parsed
+pub mod Rebuilt
+pub mod Step
