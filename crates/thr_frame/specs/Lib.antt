@@ -4,3 +4,5 @@ pub mod CodedFrame
 pub mod Parsed
 pub mod Rebuilt
 pub mod Step
+pub mod Painted
+pub mod Sources

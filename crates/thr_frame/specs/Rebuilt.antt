@@ -39,25 +39,35 @@ halves_columns s pli = not (pli == 0) && not (s.pf == 3)
 abbrev pub halves_rows : Shape → ℕ → Bool
 halves_rows s pli = not (pli == 0) && (s.pf == 0)
 
+-- the plane that a mode predicts from
+abbrev pub reference_of : Pair → ℕ → ℕ → Picture
+reference_of refs mode pli = plane_of (if is_golden mode then refs.golden else refs.prev) pli
+
 -- the predicted samples of a coded block, by column and row from its lower left one
 unfoldable pub predictor_at : Shape → Pair → CodedFrame → Block → ℕ → ℕ → ℕ
 predictor_at s refs c b =
     let mode = mode_at s c b in
-    let reference = plane_of (if is_golden mode then refs.golden else refs.prev) b.pli in
+    let reference = reference_of refs mode b.pli in
     let vector = get_or c.vectors (place_of s b) still in
     if mode == intra_mode then flat
     else predicted_by reference (8 * b.col) (8 * b.row) vector.x vector.y (halves_columns s b.pli) (halves_rows s b.pli)
 
--- the matrix of a block: that of intra or inter blocks, at the quantiser index of this place in QIS
-abbrev pub matrix_of : Contents → CodedFrame → ℕ → ℕ → ℕ → List ℕ
-matrix_of setup c mode pli place = matrix_at setup.ramps (if mode == intra_mode then 0 else 1) pli (get_or c.qis place 0)
+-- which matrices a mode has: 0 is those of intra, 1 those of inter blocks
+abbrev pub matrix_kind : ℕ → ℕ
+matrix_kind mode = if mode == intra_mode then 0 else 1
 
--- the residuals of a coded block in natural order: its DC coefficient has the first quantiser index, the others that of the block
-unfoldable pub residual_at : Contents → Shape → CodedFrame → Block → List ℤ
-residual_at setup s c b =
-    let mode = mode_at s c b in
-    let place = place_of s b in
-    residual_of (get_or c.values place []) (get_or c.counts place 0) (get_or (matrix_of setup c mode b.pli 0) 0 0) (matrix_of setup c mode b.pli (get_or c.places place 0))
+-- the matrix of a block, at the quantiser index of this place in QIS
+abbrev pub matrix_of : Contents → CodedFrame → ℕ → ℕ → ℕ → List ℕ
+matrix_of setup c mode pli place = matrix_at setup.ramps (matrix_kind mode) pli (get_or c.qis place 0)
+
+-- the residuals of the block at a place in natural order: its DC coefficient has the first quantiser index, the others that of the block
+unfoldable pub residual_by : Contents → CodedFrame → ℕ → ℕ → ℕ → List ℤ
+residual_by setup c pli place mode =
+    residual_of (get_or c.values place []) (get_or c.counts place 0) (get_or (matrix_of setup c mode pli 0) 0 0) (matrix_of setup c mode pli (get_or c.places place 0))
+
+-- those of a coded block
+abbrev pub residual_at : Contents → Shape → CodedFrame → Block → List ℤ
+residual_at setup s c b = residual_by setup c b.pli (place_of s b) (mode_at s c b)
 
 -- a sample before the loop filter: of a coded block the predicted one with its residual, of any other the previous frame's
 unfoldable pub unfiltered_at : Contents → Shape → Pair → CodedFrame → ℕ → ℕ → ℕ → ℕ

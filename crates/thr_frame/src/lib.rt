@@ -6,5 +6,7 @@
 
 mod coded;
 pub mod laws;
+mod rebuild;
+mod sources;
 
 pub use coded::Coded;

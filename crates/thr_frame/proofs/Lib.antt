@@ -1,0 +1,4 @@
+pub mod OwnLemmas
+pub mod PaintedLemmas
+pub mod PredictorLemmas
+pub mod MatrixLemmas
