@@ -2,3 +2,5 @@ pub mod OwnLemmas
 pub mod PaintedLemmas
 pub mod PredictorLemmas
 pub mod MatrixLemmas
+pub mod FilteredLemmas
+pub mod StateLemmas

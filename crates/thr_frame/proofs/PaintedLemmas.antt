@@ -1,7 +1,8 @@
 -- Planes whose blocks are rebuilt one after another. `rebuild` and the loops over macro blocks cite these.
 use Rattle.std.proofs.Common.{◌≡◌, ◌∙◌, ◌⊎◌, inl, inr, ℕ, zero, suc, ◌+◌, ◌-◌, ◌*◌, ◌/◌, ◌%◌, ◌<◌, ◌≤◌, Bool, true, false, List, [], ◌∷◌, ◌++◌, length, get_or, map, refl, sym, ap, subst, arith, if◌then◌else◌}
 use Rattle.std.specs.List.{Contains, range_with_len}
-use Rattle.std.proofs.lemmas.Bool.{cases_lt}
+use Rattle.std.proofs.lemmas.Bool.{cases_lt, true≢false}
+use Rattle.std.proofs.lemmas.List.{get_or-replicate}
 use Rattle.std.proofs.lemmas.List.FromFn.{get_or-map-range_with_len, length-map-range_with_len}
 use Rattle.std.proofs.lemmas.List.Elements.{Contains-append_cases}
 use Rattle.std.proofs.lemmas.Nat.{mul-add-lt, mod-mul-add, div-mul-add}
@@ -11,7 +12,7 @@ use Rattle.vid_geom.specs.declared.block.Block.{Block}
 use Rattle.vid_geom.specs.CodedOrder.{IsBlock, block_columns, block_rows, order_of, place_of}
 use Rattle.vid_geom.specs.MacroBlocks.{macro_blocks}
 use Rattle.vid_geom.specs.ByBlock.{macro_place}
-use Rattle.vid_geom.proofs.OrderLemmas.{place_apart}
+use Rattle.vid_geom.proofs.OrderLemmas.{place_apart, place_below}
 use Rattle.vid_geom.proofs.SizeLemmas.{plane_width_is, plane_height_is}
 use Rattle.vid_plane.specs.Picture.{Picture, pixel, sealed_picture}
 use Rattle.vid_plane.specs.Paints.{Paints}
@@ -20,9 +21,9 @@ use Rattle.vid_plane.proofs.PaintLemmas.{same_picture}
 use Rattle.vid_plane.proofs.PictureLemmas.{pixel-sealed_picture}
 use Rattle.thr_setup.specs.Setup.{Contents}
 use Rattle.thr_recon.specs.Rebuilt.{rebuilt}
-use Rattle.thr_frame.specs.CodedFrame.{CodedFrame}
+use Rattle.thr_frame.specs.CodedFrame.{CodedFrame, IsCodedFrame}
 use Rattle.thr_frame.specs.Rebuilt.{Pair, block_at, predictor_at, residual_at, unfiltered_at, unfiltered_plane}
-use Rattle.thr_frame.specs.Painted.{IsDone, IsPainted}
+use Rattle.thr_frame.specs.Painted.{IsDone, IsPainted, ShowsUncoded}
 use Rattle.thr_frame.proofs.OwnLemmas.{owner}
 
 -- a sample stands in a block of the frame
@@ -168,3 +169,25 @@ painted_all setup s refs c pli m p h last before =
     let is = sample_inside s pli x y p h before.sized hx hy in
     let o = owner s (block_at pli x y) is in
     pixel-sealed_picture p x y ∙ before.samples x y hx hy (inr (inl (omega (arith, o.below)))) ∙ sym (pixel_of_unfiltered setup s refs c pli x y (omega arith) (omega arith)))
+
+-- no macro block yet
+pub painted_none : (setup : Contents) (s : Shape) (refs : Pair) (c : CodedFrame) (pli : ℕ) (p : Picture) → IsPlaneOf s pli p → length p.samples ≡ p.width * p.height → ShowsUncoded s refs c pli p → IsPainted setup s refs c pli 0 [] p
+unfolding unfiltered_at
+painted_none setup s refs c pli p sized whole shows = record {
+  sized = sized;
+  whole = whole;
+  samples = λ x y hx hy done. first x y hx hy done;
+}
+  where
+    first : (x y : ℕ) → x < p.width → y < p.height → IsDone s c 0 [] (block_at pli x y) → pixel p x y ≡ unfiltered_at setup s refs c pli x y
+    first x y hx hy (inl uncoded) = rw uncoded (shows x y hx hy uncoded)
+    first x y hx hy (inr (inl below)) = absurd (omega arith)
+    first x y hx hy (inr (inr none)) = absurd (omega (arith, none.1))
+
+-- an intra frame has no block that is not coded
+pub shows_intra : (s : Shape) (refs : Pair) (c : CodedFrame) (pli : ℕ) (p : Picture) → pli < 3 → IsCodedFrame s c → c.intra ≡ true → IsPlaneOf s pli p → ShowsUncoded s refs c pli p
+shows_intra s refs c pli p h is intra sized = λ x y hx hy uncoded.
+    let b = block_at pli x y in
+    let below : place_of s b < length (order_of s) = place_below s b (sample_inside s pli x y p h sized hx hy) in
+    let flag : get_or c.flags (place_of s b) false ≡ true = ap (λ (l : List Bool). get_or l (place_of s b) false) (is.all_coded intra) ∙ get_or-replicate (length (order_of s)) (place_of s b) true false below in
+    absurd (true≢false (sym flag ∙ uncoded))

@@ -8,7 +8,7 @@ use Rattle.vid_geom.specs.declared.block.Block.{Block}
 use Rattle.vid_geom.specs.CodedOrder.{place_of}
 use Rattle.vid_geom.specs.ByBlock.{macro_place}
 use Rattle.vid_plane.specs.Picture.{Picture, pixel}
-use Rattle.vid_plane.specs.Frames.{plane_of, sealed_frame}
+use Rattle.vid_plane.specs.Frames.{References, plane_of, sealed_frame}
 use Rattle.vid_plane.specs.declared.frame.Frame.{Frame}
 use Rattle.thr_setup.specs.Setup.{Contents}
 use Rattle.thr_quant.specs.Matrix.{matrix_at}
@@ -23,6 +23,10 @@ use Rattle.thr_frame.specs.CodedFrame.{CodedFrame, intra_mode, is_golden}
 pub record Pair : Type 0 where
   pub prev : Frame
   pub golden : Frame
+
+-- those of a decoder
+abbrev pub pair_in : References → Pair
+pair_in r = record { prev = r.prev; golden = r.golden }
 
 -- the block of a sample
 abbrev pub block_at : ℕ → ℕ → ℕ → Block

@@ -9,7 +9,7 @@ use Rattle.vid_plane.specs.declared.frame.Frame.{Frame}
 use Rattle.thr_setup.specs.Setup.{Contents}
 use Rattle.thr_frame.specs.CodedFrame.{CodedFrame}
 use Rattle.thr_frame.specs.Parsed.{frame_in}
-use Rattle.thr_frame.specs.Rebuilt.{Pair, rebuilt_frame}
+use Rattle.thr_frame.specs.Rebuilt.{Pair, pair_in, rebuilt_frame}
 
 -- the frames that a state predicts from; before the first frame, which is intra and predicts from none, any will do
 abbrev pub pair_of : Shape → Option Pair → Pair
@@ -45,4 +45,4 @@ frames_from setup s state (packet ∷ packets) = step setup s state packet >>= (
 
 -- the state that a decoder's frames are
 abbrev pub state_of : References → Option Pair
-state_of r = if r.started then Some (record { prev = r.prev; golden = r.golden }) else None
+state_of r = if r.started then Some (pair_in r) else None

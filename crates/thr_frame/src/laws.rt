@@ -9,5 +9,4 @@ ghost use Rattle.thr_frame.specs.Step.{state_after, frames_from};
 #[tactic(auto, unfolding(crate::specs::Step::state_after))]
 pub fn decoding_begins_with_nothing()
     ensures state { (setup : Contents) (s : Shape) → state_after setup s None [] ≡ Ok None }
-{
-}
+{}

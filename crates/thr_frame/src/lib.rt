@@ -5,8 +5,10 @@
 #![tactic(auto)]
 
 mod coded;
+mod frame;
 pub mod laws;
 mod rebuild;
 mod sources;
 
 pub use coded::Coded;
+pub use frame::rebuild_frame;

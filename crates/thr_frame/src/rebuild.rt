@@ -1,35 +1,33 @@
-// A frame rebuilt from what its packet says (Theora I, 7.9.4, 7.10 and 7.11).
-ghost use Rattle.std.specs.Prelude.{◌≡◌, ◌<◌, ◌≤◌, ◌+◌, ◌*◌, ◌++◌, ◌∷◌, ℕ, All, IsSomeAnd, IsTrue, List, [], false, true, length, map, slice_get, slice_index_or, take};
+// The blocks of a plane rebuilt (Theora I, 7.9.4).
+ghost use Rattle.std.specs.Prelude.{◌≡◌, ◌<◌, ◌≤◌, ◌+◌, ◌*◌, ◌++◌, ◌∷◌, ℕ, All, IsSomeAnd, List, [], true, length, map, slice_get, take};
 ghost use Rattle.vid_geom.specs.CodedOrder.{IsBlock, order_of, place_of};
 ghost use Rattle.vid_geom.specs.MacroBlocks.{macro_blocks};
-ghost use Rattle.vid_plane.specs.Picture.{sealed_picture};
-ghost use Rattle.vid_plane.specs.Frames.{AreOf, IsFrameOf, IsPlaneOf, sealed_frame};
+ghost use Rattle.vid_plane.specs.Frames.{IsPlaneOf};
 ghost use Rattle.thr_setup.specs.Setup.{contents};
 ghost use Rattle.thr_recon.specs.Predicted.{shown};
-ghost use Rattle.thr_frame.specs.CodedFrame.{IsCodedFrame, frame_of, is_golden};
-ghost use Rattle.thr_frame.specs.Rebuilt.{halves_columns, halves_rows, limit_of, matrix_kind, mode_at, predictor_at, rebuilt_frame, reference_of, residual_by, unfiltered, unfiltered_plane};
-ghost use Rattle.thr_frame.specs.Painted.{AreMatrices, AreSealed, HasMode, ShowsUncoded, blocks_of};
+ghost use Rattle.thr_frame.specs.CodedFrame.{frame_of, is_golden};
+ghost use Rattle.thr_frame.specs.Rebuilt.{halves_columns, halves_rows, matrix_kind, mode_at, predictor_at, reference_of, residual_by};
+ghost use Rattle.thr_frame.specs.Painted.{AreMatrices, HasMode, blocks_of};
 ghost use Rattle.thr_frame.specs.Sources.{IsPaintedFrom, refs_of};
-ghost use Rattle.thr_frame.specs.Step.{state_of};
 
 use crate::coded::Coded;
-use crate::sources::{PlaneSources, Sources};
-use thr_loop::filter;
+use crate::sources::PlaneSources;
 use thr_recon::{Predictor, predict, rebuild_block, residual};
 use thr_setup::Setup;
 use vid_base::Shape;
 use vid_geom::{Block, Geom};
-use vid_plane::{Frame, Plane, RefStore};
+use vid_plane::Plane;
 
 /// The mode of intra blocks (Theora I, 7.4).
 const INTRA: u8 = 1;
 
 /// The modes that predict from the golden frame.
 const GOLDEN: u8 = 5;
+
 const GOLDEN_MV: u8 = 6;
 
 // The matrices of a plane, each made once.
-fn matrices(setup: &Setup, coded: &Coded, pli: u8) -> [[u16; 64]; 6]
+pub(crate) fn matrices(setup: &Setup, coded: &Coded, pli: u8) -> [[u16; 64]; 6]
     requires plane { pli < 3 }
     requires few { length coded.now.qis.items ≤ 3 }
     requires small { All (λ qi. qi < 64) coded.now.qis.items }
@@ -171,7 +169,7 @@ impl PlaneSources<'_> {
     }
 
     // Rebuilds the blocks of the plane.
-    fn rebuild_all(&self, plane: &mut Plane)
+    pub(crate) fn rebuild_all(&self, plane: &mut Plane)
         requires { IsPaintedFrom self.now 0 [] plane.old }
         ensures { IsPaintedFrom self.now (length (macro_blocks self.now.from.geom.now)) [] plane.new }
     {
@@ -179,48 +177,4 @@ impl PlaneSources<'_> {
             self.rebuild_macro_block(plane, m);
         }
     }
-}
-
-// Rebuilds the blocks of a plane. What it shows before counts where a block is not coded.
-fn rebuild_plane(plane: &mut Plane, from: &Sources<'_>, pli: u8)
-    requires pli { pli < 3 }
-    requires sized { IsPlaneOf from.now.geom.now pli plane.old }
-    requires start { ShowsUncoded from.now.geom.now (refs_of from.now) (frame_of from.now.coded.now) pli plane.old }
-    ensures value { sealed_picture plane.new ≡ sealed_picture (unfiltered_plane (contents from.now.setup.now) from.now.geom.now (refs_of from.now) (frame_of from.now.coded.now) pli) }
-    ensures sized { IsPlaneOf from.now.geom.now pli plane.new }
-{
-    let _width = plane.width();
-    let matrices = matrices(from.setup, from.coded, pli);
-    let sources = PlaneSources {
-        from: *from,
-        pli,
-        matrices: &matrices,
-    };
-    sources.rebuild_all(plane);
-}
-
-// Rebuilds the blocks of all planes.
-fn rebuild_planes(now: &mut Frame, from: &Sources<'_>)
-    requires { IsFrameOf from.now.geom.now now.old }
-    ensures value { sealed_frame now.new ≡ sealed_frame (unfiltered (contents from.now.setup.now) from.now.geom.now (refs_of from.now) (frame_of from.now.coded.now)) }
-    ensures sized { IsFrameOf from.now.geom.now now.new }
-{
-    if !from.coded.intra {
-        now.copy_from(from.prev);
-    }
-    rebuild_plane(&mut now.y, from, 0);
-    rebuild_plane(&mut now.cb, from, 1);
-    rebuild_plane(&mut now.cr, from, 2);
-}
-
-// Paints a frame, and filters it.
-fn paint_frame(now: &mut Frame, from: &Sources<'_>)
-    requires { IsFrameOf from.now.geom.now now.old }
-    ensures value { sealed_frame now.new ≡ rebuilt_frame (contents from.now.setup.now) from.now.geom.now (refs_of from.now) (frame_of from.now.coded.now) }
-    ensures sized { IsFrameOf from.now.geom.now now.new }
-{
-    rebuild_planes(now, from);
-    let limits = from.setup.limits.of;
-    let limit = limits[usize::from(from.coded.qis[0])];
-    filter(now, from.geom, &from.coded.flags, limit);
 }
