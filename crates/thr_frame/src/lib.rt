@@ -5,6 +5,13 @@
 #![tactic(auto)]
 
 mod coded;
+mod head;
+mod kinds;
 pub mod laws;
+mod motion;
+mod places;
+mod residue;
+mod work;
 
 pub use coded::Coded;
+pub use work::Work;

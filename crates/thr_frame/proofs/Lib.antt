@@ -1,0 +1,3 @@
+pub mod MotionLemmas
+pub mod KindLemmas
+pub mod PlaceLemmas
