@@ -1,3 +1,4 @@
 pub mod MotionLemmas
 pub mod KindLemmas
 pub mod PlaceLemmas
+pub mod ClearLemmas

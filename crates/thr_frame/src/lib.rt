@@ -4,14 +4,17 @@
 //! makes `rebuilt_frame` of what was parsed, and `Decoder::step` is `step`, which is the two one behind the other.
 #![tactic(auto)]
 
+mod clearing;
 mod coded;
 mod head;
 mod kinds;
 pub mod laws;
 mod motion;
+mod parsing;
 mod places;
 mod residue;
 mod work;
 
 pub use coded::Coded;
+pub use parsing::{parse_frame, parse_into};
 pub use work::Work;
