@@ -122,8 +122,16 @@ coded_in setup s bytes = parsed setup s (bits_of bytes) >>= (λ read. Ok read.0)
 abbrev pub is_inter : ℕ → Bool
 is_inter byte = byte / 64 == 1
 
--- what a frame's packet says where frames were decoded before it (started) or none was: one without bytes repeats the frame
--- before it, and says nothing; the first frame is a key frame
+-- a packet that needs a frame before it: one without bytes, which repeats that frame, or that of an inter frame
+abbrev pub needs_frame : List ℕ → Bool
+needs_frame [] = true
+needs_frame (byte ∷ bytes) = is_inter byte
+
+-- what a packet says; one without bytes says nothing
+unfoldable pub packet_in : Contents → Shape → List ℕ → Result (Option CodedFrame) PacketFault
+packet_in setup s [] = Ok None
+packet_in setup s (byte ∷ bytes) = coded_in setup s (byte ∷ bytes) >>= (λ coded. Ok (Some coded))
+
+-- what a frame's packet says where frames were decoded before it (started) or none was: the first frame is a key frame
 unfoldable pub frame_in : Contents → Shape → Bool → List ℕ → Result (Option CodedFrame) PacketFault
-frame_in setup s started [] = if started then Ok None else Err FirstNotKey
-frame_in setup s started (byte ∷ bytes) = if not started && is_inter byte then Err FirstNotKey else (coded_in setup s (byte ∷ bytes) >>= (λ coded. Ok (Some coded)))
+frame_in setup s started packet = if not started && needs_frame packet then Err FirstNotKey else packet_in setup s packet

@@ -4,6 +4,7 @@
 //! makes `rebuilt_frame` of what was parsed, and `Decoder::step` is `step`, which is the two one behind the other.
 #![tactic(auto)]
 
+mod checking;
 mod clearing;
 mod coded;
 mod head;
@@ -15,6 +16,7 @@ mod places;
 mod residue;
 mod work;
 
+pub use checking::{check_blank, check_frame};
 pub use coded::Coded;
 pub use parsing::{parse_frame, parse_into};
 pub use work::Work;

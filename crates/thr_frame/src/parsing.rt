@@ -2,11 +2,12 @@
 ghost use Rattle.std.specs.Prelude.{◌≡◌, Err, IfErr, IfOk, Ok, OnOk};
 ghost use Rattle.vid_base.specs.Reading.{Gives, Refuses, SameEnd};
 ghost use Rattle.thr_setup.specs.Setup.{contents};
+ghost use Rattle.thr_token.specs.Tokenised.{AreBlank};
 ghost use Rattle.thr_frame.specs.CodedFrame.{IsCodedFrame, IsSized, frame_of};
 ghost use Rattle.thr_frame.specs.Parsed.{blank_values, coded_in, fields_of, parsed, with_dc_values};
 ghost use Rattle.thr_frame.specs.Work.{IsWorkFor};
 
-use crate::clearing::clear_all;
+use crate::clearing::clear;
 use crate::coded::Coded;
 use crate::head::read_head;
 use crate::kinds::fill_kinds;
@@ -34,6 +35,7 @@ pub(crate) fn read_fields(
     requires blank { into.old.coeffs.values.items ≡ blank_values geom.now }
     ensures value { Gives (λ _. frame_of into.new) result r.new.left (fields_of (contents setup.now) geom.now r.old.left) }
     ensures rebuildable { OnOk result (IsCodedFrame geom.now (frame_of into.new)) }
+    ensures blank { OnOk result (AreBlank into.new.flags.items into.new.coeffs.values.items) }
     ensures sized { IsSized geom.now (frame_of into.new) }
     ensures work { IsWorkFor geom.now work.new }
     ensures end { SameEnd r.old r.new }
@@ -60,6 +62,7 @@ fn undo_differences(geom: &Geom, into: &mut Coded, work: &mut Work)
     requires sized { IsSized geom.now (frame_of into.old) }
     requires work { IsWorkFor geom.now work.old }
     ensures value { frame_of into.new ≡ with_dc_values geom.now (frame_of into.old) }
+    ensures blank { AreBlank into.old.flags.items into.old.coeffs.values.items → AreBlank into.new.flags.items into.new.coeffs.values.items }
     ensures rebuildable { IsCodedFrame geom.now (frame_of into.old) → IsCodedFrame geom.now (frame_of into.new) }
     ensures sized { IsSized geom.now (frame_of into.new) }
     ensures work { IsWorkFor geom.now work.new }
@@ -83,6 +86,7 @@ pub(crate) fn read_frame(
     requires blank { into.old.coeffs.values.items ≡ blank_values geom.now }
     ensures value { Gives (λ _. frame_of into.new) result r.new.left (parsed (contents setup.now) geom.now r.old.left) }
     ensures rebuildable { OnOk result (IsCodedFrame geom.now (frame_of into.new)) }
+    ensures blank { OnOk result (AreBlank into.new.flags.items into.new.coeffs.values.items) }
     ensures sized { IsSized geom.now (frame_of into.new) }
     ensures work { IsWorkFor geom.now work.new }
     ensures end { SameEnd r.old r.new }
@@ -107,21 +111,12 @@ pub(crate) fn parse_blank(
     ensures value { OnOk result (coded_in (contents setup.now) geom.now packet.now ≡ Ok (frame_of into.new)) }
     ensures fault { IfErr result (λ fault. coded_in (contents setup.now) geom.now packet.now ≡ Err fault) }
     ensures rebuildable { OnOk result (IsCodedFrame geom.now (frame_of into.new)) }
+    ensures blank { OnOk result (AreBlank into.new.flags.items into.new.coeffs.values.items) }
     ensures sized { IsSized geom.now (frame_of into.new) }
     ensures work { IsWorkFor geom.now work.new }
 {
     let mut r = BitReader::new(packet);
     read_frame(&mut r, geom, setup, into, work)
-}
-
-// Sets all coefficients to 0.
-#[tactic(auto, unfolding(crate::specs::CodedFrame::frame_of))]
-fn clear(geom: &Geom, into: &mut Coded)
-    requires sized { IsSized geom.now (frame_of into.old) }
-    ensures sized { IsSized geom.now (frame_of into.new) }
-    ensures blank { into.new.coeffs.values.items ≡ blank_values geom.now }
-{
-    clear_all(&mut into.coeffs.values);
 }
 
 /// Parses a frame's packet into lists that were made for frames of that geometry; takes no memory (Theora I, 7). The first
@@ -139,6 +134,7 @@ pub fn parse_into(
     ensures value { OnOk result (coded_in (contents setup.now) geom.now packet.now ≡ Ok (frame_of into.new)) }
     ensures fault { IfErr result (λ fault. coded_in (contents setup.now) geom.now packet.now ≡ Err fault) }
     ensures rebuildable { OnOk result (IsCodedFrame geom.now (frame_of into.new)) }
+    ensures blank { OnOk result (AreBlank into.new.flags.items into.new.coeffs.values.items) }
     ensures sized { IsSized geom.now (frame_of into.new) }
     ensures work { IsWorkFor geom.now work.new }
 {

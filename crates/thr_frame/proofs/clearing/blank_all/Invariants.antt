@@ -1,5 +1,5 @@
 use Rattle.std.proofs.Common.{◌≡◌, ℕ, ◌<◌, [], pos, get_or, replicate}
-use Rattle.thr_frame.proofs.clearing.clear_all.Given as goal
+use Rattle.thr_frame.proofs.clearing.blank_all.Given as goal
 
 -- the values so far are 0
 abbrev pub invariant-blocks-2 : goal.invariant-blocks-2

@@ -1,5 +1,5 @@
 use Rattle.std.proofs.Common.{◌≡◌, ℕ, ◌<◌, ◌≤◌, [], pos, get_or, replicate}
-use Rattle.thr_frame.proofs.clearing.clear_coded.Given as goal
+use Rattle.thr_frame.proofs.clearing.blank_coded.Given as goal
 
 -- the values so far are 0, and the others are as they were
 abbrev pub invariant-blocks-2 : goal.invariant-blocks-2
