@@ -1,3 +1,8 @@
+pub mod MotionLemmas
+pub mod KindLemmas
+pub mod PlaceLemmas
+pub mod ClearLemmas
+pub mod BlankLemmas
 pub mod OwnLemmas
 pub mod PaintedLemmas
 pub mod PredictorLemmas

@@ -1,5 +1,5 @@
 -- The head of a frame's packet (Theora I, 7.1).
-use Rattle.std.specs.Prelude.{ℕ, zero, suc, ◌==◌, Bool, true, false, not, List, [], ◌∷◌, Result, Ok, Err, if◌then◌else◌}
+use Rattle.std.specs.Prelude.{ℕ, zero, suc, ◌<◌, ◌≤◌, ◌==◌, All, length, Bool, true, false, not, List, [], ◌∷◌, Result, Ok, Err, if◌then◌else◌}
 use Rattle.vid_base.specs.declared.fault.PacketFault.{PacketFault}
 use Rattle.vid_base.specs.declared.fault.PacketFault.TheVariants.{NotData, Reserved}
 use Rattle.vid_base.specs.Reading.{◌>>=◌, field, one_bit}
@@ -8,6 +8,15 @@ use Rattle.vid_base.specs.Reading.{◌>>=◌, field, one_bit}
 pub record FrameHead : Type 0 where
   pub intra : Bool
   pub qis : List ℕ
+
+abbrev pub head_with : Bool → List ℕ → FrameHead
+head_with intra qis = record { intra = intra; qis = qis }
+
+-- what quantiser indices of a frame can be
+pub record IsQis (qis : List ℕ) : Type 0 where
+  pub some : 0 < length qis
+  pub few : length qis ≤ 3
+  pub small : All (λ qi. qi < 64) qis
 
 -- up to n quantiser indices more: a bit before each tells that it is there
 unfoldable pub more_qis : ℕ → List Bool → Result (List ℕ × List Bool) PacketFault
@@ -31,4 +40,4 @@ head_of bits = one_bit bits >>= (λ other. if other.0 then Err NotData else (
     one_bit other.1 >>= (λ inter.
     qis_of inter.1 >>= (λ qis.
     reserved_of (not inter.0) qis.1 >>= (λ reserved.
-    Ok (record { intra = not inter.0; qis = qis.0 }, reserved.1))))))
+    Ok (head_with (not inter.0) qis.0, reserved.1))))))

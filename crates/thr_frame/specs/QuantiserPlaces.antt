@@ -24,10 +24,14 @@ moved_up place (coded ∷ flags) (at ∷ places) (move ∷ moves) =
     then (if move then at + 1 else at) ∷ moved_up place flags places moves
     else at ∷ moved_up place flags places (move ∷ moves)
 
--- so many rounds, from this place on: a long run string has a bit for each coded block that stands there
+-- one round: a long run string has a bit for each coded block that stands at this place
+unfoldable pub round : ℕ → List Bool → List ℕ → List Bool → Result (List ℕ × List Bool) PacketFault
+round place flags places bits = long_string (standing place flags places) bits >>= (λ moves. Ok (moved_up place flags places moves.0, moves.1))
+
+-- so many rounds, from this place on
 unfoldable pub rounds : ℕ → ℕ → List Bool → List ℕ → List Bool → Result (List ℕ × List Bool) PacketFault
 rounds zero place flags places bits = Ok (places, bits)
-rounds (suc n) place flags places bits = long_string (standing place flags places) bits >>= (λ moves. rounds n (place + 1) flags (moved_up place flags places moves.0) moves.1)
+rounds (suc n) place flags places bits = round place flags places bits >>= (λ next. rounds n (place + 1) flags next.0 next.1)
 
 -- the places of all blocks, where QIS has so many entries: there is a round for each but the last
 unfoldable pub places_of : ℕ → List Bool → List Bool → Result (List ℕ × List Bool) PacketFault

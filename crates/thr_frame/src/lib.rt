@@ -4,11 +4,23 @@
 //! makes `rebuilt_frame` of what was parsed, and `Decoder::step` is `step`, which is the two one behind the other.
 #![tactic(auto)]
 
+mod checking;
+mod clearing;
 mod coded;
 mod frame;
+mod head;
+mod kinds;
 pub mod laws;
+mod motion;
+mod parsing;
+mod places;
 mod rebuild;
+mod residue;
 mod sources;
+mod work;
 
+pub use checking::{check_blank, check_frame};
 pub use coded::Coded;
 pub use frame::rebuild_frame;
+pub use parsing::{parse_frame, parse_into};
+pub use work::Work;

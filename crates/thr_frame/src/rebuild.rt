@@ -10,16 +10,13 @@ ghost use Rattle.thr_frame.specs.Rebuilt.{halves_columns, halves_rows, matrix_ki
 ghost use Rattle.thr_frame.specs.Painted.{AreMatrices, HasMode, blocks_of};
 ghost use Rattle.thr_frame.specs.Sources.{IsPaintedFrom, refs_of};
 
-use crate::coded::Coded;
+use crate::coded::{Coded, INTRA};
 use crate::sources::PlaneSources;
 use thr_recon::{Predictor, predict, rebuild_block, residual};
 use thr_setup::Setup;
 use vid_base::Shape;
 use vid_geom::{Block, Geom};
 use vid_plane::Plane;
-
-/// The mode of intra blocks (Theora I, 7.4).
-const INTRA: u8 = 1;
 
 /// The modes that predict from the golden frame.
 const GOLDEN: u8 = 5;
