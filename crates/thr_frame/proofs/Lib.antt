@@ -9,3 +9,4 @@ pub mod PredictorLemmas
 pub mod MatrixLemmas
 pub mod FilteredLemmas
 pub mod StateLemmas
+pub mod DecodingLemmas
