@@ -10,6 +10,7 @@ use Rattle.vid_geom.specs.CodedOrder.{order_of}
 use Rattle.thr_huff.specs.CodeTree.{CodeTree}
 use Rattle.thr_token.specs.Coefficients.{Progress, Source, at_place, coefficients, first_place, is_luma, numbers_in, places, results_of, token_in, turn, unended, untouched, untouched_blocks, visit}
 use Rattle.thr_token.specs.Tokenised.{AreBlank}
+use Rattle.thr_frame.proofs.StepLemmas.{both, ok_same}
 
 -- a block has ended, and has only zeros
 abbrev pub IsResting : Progress → Type 0
@@ -21,19 +22,6 @@ AreResting [] [] = ⊤
 AreResting [] (b ∷ blocks) = ⊥
 AreResting (coded ∷ flags) [] = ⊥
 AreResting (coded ∷ flags) (b ∷ blocks) = (coded ≡ false → IsResting b) × AreResting flags blocks
-
--- what a reading that goes on was given, and what then came out
-record Both {A B F : Type 0} (read : Result A F) (next : A → Result B F) (out : B) : Type 0 where
-  value : A
-  was : read ≡ Ok value
-  then : next value ≡ Ok out
-
-both : {A B F : Type 0} (read : Result A F) (next : A → Result B F) (out : B) → (read >>= next) ≡ Ok out → Both read next out
-both (Ok a) next out e = record { value = a; was = refl; then = e }
-both (Err fault) next out e = cc
-
-ok_same : {A F : Type 0} (a b : A) → ◌≡◌ {A = Result A F} (Ok a) (Ok b) → a ≡ b
-ok_same a b e = cc
 
 resting-append : (flags more : List Bool) (blocks others : List Progress) → AreResting flags blocks → AreResting more others → AreResting (flags ++ more) (blocks ++ others)
 resting-append [] more [] others a b = b

@@ -2,4 +2,6 @@ pub mod MotionLemmas
 pub mod KindLemmas
 pub mod PlaceLemmas
 pub mod ClearLemmas
+pub mod StepLemmas
 pub mod BlankLemmas
+pub mod KeyLemmas

@@ -20,3 +20,6 @@ pub use checking::{check_blank, check_frame};
 pub use coded::Coded;
 pub use parsing::{parse_frame, parse_into};
 pub use work::Work;
+
+#[cfg(test)]
+mod parse_tests;
