@@ -47,8 +47,8 @@ resting_at next place visited (x ∷ blocks) all run rest source left seen (code
     let step = both (visit next place (unended visited + unended blocks) x run source) (λ after. at_place next place (visited ++ after.0.0 ∷ []) blocks after.0.1 after.1) ((all, rest), left) e in
     let after : Progress = step.value.0.0 in
     let resting : coded ≡ false → IsResting after = λ off. (
-        let same : x ≡ after = ap (λ out. out.0.0) (ok_same ((x, run), source) step.value (sym (visit_ended next place (unended visited + unended blocks) x run source h (b.0 off).0) ∙ step.was)) in
-        rw (← same) (b.0 off)) in
+    let same : x ≡ after = ap (λ out. out.0.0) (ok_same ((x, run), source) step.value (sym (visit_ended next place (unended visited + unended blocks) x run source h (b.0 off).0) ∙ step.was)) in
+    rw (← same) (b.0 off)) in
     rw (← append_assoc seen (coded ∷ []) flags)
     (resting_at next place (visited ++ after ∷ []) blocks all step.value.0.1 rest step.value.1 left (seen ++ coded ∷ []) flags h step.then (resting-append seen (coded ∷ []) visited (after ∷ []) a (resting, tt)) b.1)
 

@@ -10,8 +10,7 @@ ghost use Rattle.thr_frame.specs.Step.{state_after};
 #[tactic(auto, unfolding(crate::specs::Step::state_after))]
 pub fn decoding_begins_with_nothing()
     ensures state { (setup : Contents) (s : Shape) → state_after setup s None [] ≡ Ok None }
-{
-}
+{}
 
 /// A packet whose first two bits are 0 says the same whatever was decoded before it, and the first frame is intra. There is
 /// nothing to run.
@@ -20,5 +19,4 @@ pub fn key_packets_need_no_frame()
     ensures same { (setup : Contents) (s : Shape) (started : Bool) (packet : List ℕ) → needs_frame packet ≡ false → frame_in setup s started packet ≡ frame_in setup s false packet }
     ensures intra { (setup : Contents) (s : Shape) (packet : List ℕ) (c : CodedFrame) → All (λ byte. byte < 256) packet → coded_in setup s packet ≡ Ok c → c.intra ≡ not (needs_frame packet) }
     ensures first { (setup : Contents) (s : Shape) (packet : List ℕ) (c : CodedFrame) → All (λ byte. byte < 256) packet → frame_in setup s false packet ≡ Ok (Some c) → c.intra ≡ true }
-{
-}
+{}

@@ -80,7 +80,7 @@ fn assert_says(rt: &impl Abort, coded: &Coded, said: &Said) {
     assert!(rt; coded.qis.as_slice() == said.qis);
     assert_eq!(rt; coded.flags.len(), 6);
     assert!(rt; coded.flags.iter().all(|flag| *flag == said.coded));
-    assert!(rt; coded.modes.as_slice() == [said.mode]);
+    assert!(rt; coded.modes.as_slice() == [said.mode].as_slice());
     assert_eq!(rt; coded.vectors.len(), 6);
     assert!(rt; coded.vectors.iter().all(|v| *v == Vector { x: 0, y: 0 }));
     assert_eq!(rt; coded.places.len(), 6);
@@ -91,7 +91,7 @@ fn assert_says(rt: &impl Abort, coded: &Coded, said: &Said) {
         assert_eq!(rt; values[0], dc);
         assert!(rt; values[1..].iter().all(|value| *value == 0));
     }
-    assert!(rt; coded.coeffs.counts.as_slice() == [said.first_count, 0, 0, 0, 0, 0]);
+    assert!(rt; coded.coeffs.counts.as_slice() == [said.first_count, 0, 0, 0, 0, 0].as_slice());
 }
 
 #[test]
@@ -140,10 +140,7 @@ const FAULTS: [(&[u8], PacketFault); 11] = [
         &[0x3f, 0x00, 0x04, 0x8d, 0x00, 0x47, 0xe0],
         PacketFault::TokenPastEnd,
     ),
-    (
-        &[0x3f, 0x00, 0x04, 0x8d, 0x00, 0x47],
-        PacketFault::Ended,
-    ),
+    (&[0x3f, 0x00, 0x04, 0x8d, 0x00, 0x47], PacketFault::Ended),
 ];
 
 #[test]
