@@ -80,6 +80,13 @@ resting_blank (coded ∷ flags) [] a k off = absurd a
 resting_blank (coded ∷ flags) (b ∷ blocks) a zero off = (a.0 off).1
 resting_blank (coded ∷ flags) (b ∷ blocks) a (suc k) off = resting_blank flags blocks a.1 k off
 
+-- what is given of blocks
+given_blank : (flags : List Bool) (all : List Progress) (values : List (List ℤ)) (counts : List ℕ) (rest left : List Bool) → ◌≡◌ {A = Result ((List (List ℤ) × List ℕ) × List Bool) PacketFault} (Ok (results_of all, rest)) (Ok ((values, counts), left))
+    → AreResting flags all → AreBlank flags values
+given_blank flags all values counts rest left e a =
+    let are : map (λ b. b.values) all ≡ values = ap (λ read. read.0.0) (ok_same (results_of all, rest) ((values, counts), left) e) in
+    rw (← are) (resting_blank flags all a)
+
 -- the values of blocks that are not coded are 0 in every frame that is read
 pub read_blank : (forest : List CodeTree) (s : Shape) (flags bits : List Bool) (values : List (List ℤ)) (counts : List ℕ) (left : List Bool) → length flags ≡ length (order_of s)
     → coefficients forest s flags bits ≡ Ok ((values, counts), left) → AreBlank flags values
@@ -90,14 +97,6 @@ read_blank forest s flags bits values counts left h e =
     let first = both (places (token_in forest dc.value.0) 1 0 (untouched_blocks (order_of s) flags) 0 dc.value.1) _ out dc.then in
     let ac = both (numbers_in first.value.1) _ out first.then in
     let all = both (places (token_in forest ac.value.0) 63 1 first.value.0.0 first.value.0.1 ac.value.1) _ out ac.then in
-    let same : results_of all.value.0.0 ≡ (values, counts) = ap (λ read. read.0) (ok_same (results_of all.value.0.0, all.value.1) out all.then) in
     let begun = resting_places (token_in forest dc.value.0) 1 0 (untouched_blocks (order_of s) flags) first.value.0.0 0 first.value.0.1 dc.value.1 first.value.1 flags (omega arith) first.was (resting_first (order_of s) flags h) in
     let ended = resting_places (token_in forest ac.value.0) 63 1 first.value.0.0 all.value.0.0 first.value.0.1 all.value.0.1 ac.value.1 all.value.1 flags (omega arith) all.was begun in
-    let are : map (λ b. b.values) all.value.0.0 ≡ values = ap (λ read. read.0) same in
-    rw (← are) (resting_blank flags all.value.0.0 ended)
-
--- so are they where no block is read at all
-pub none_blank : (flags : List Bool) → AreBlank flags (replicate (length flags) (replicate 64 (pos 0)))
-none_blank [] k off = absurd cc
-none_blank (coded ∷ flags) zero off = refl
-none_blank (coded ∷ flags) (suc k) off = none_blank flags k off
+    given_blank flags all.value.0.0 values counts all.value.1 left all.then ended

@@ -13,7 +13,7 @@ use Rattle.vid_base.specs.Reading.{◌>>=◌, one_bit}
 use Rattle.thr_setup.specs.Setup.{Contents}
 use Rattle.thr_frame.specs.FrameHead.{FrameHead, head_of, head_with, qis_of, reserved_of}
 use Rattle.thr_frame.specs.CodedFrame.{CodedFrame}
-use Rattle.thr_frame.specs.Parsed.{coded_in, fields_of, frame_in, is_inter, joined_fields, motion_of, needs_frame, packet_in, parsed, residue_of, with_dc_values}
+use Rattle.thr_frame.specs.Parsed.{Motion, Residue, coded_in, fields_of, frame_in, is_inter, joined_fields, motion_of, needs_frame, packet_in, parsed, residue_of, with_dc_values}
 use Rattle.thr_frame.proofs.StepLemmas.{both, ok_same}
 
 -- the second bit of a byte whose first is 0
@@ -45,9 +45,20 @@ nothing_said : (setup : Contents) (s : Shape) → coded_in setup s [] ≡ Err En
 unfolding coded_in parsed fields_of head_of bits_of one_bit
 nothing_said setup s = refl
 
+-- it goes through to the frame
+joined_intra : (head : FrameHead) (motion : Motion) (residue : Residue) (rest : List Bool) (read : CodedFrame × List Bool) → ◌≡◌ {A = Result (CodedFrame × List Bool) PacketFault} (Ok (joined_fields head motion residue, rest)) (Ok read) → head.intra ≡ read.0.intra
+joined_intra head motion residue rest read e = ap (λ read. read.0.intra) (ok_same (joined_fields head motion residue, rest) read e)
+
+dc_intra : (s : Shape) (c : CodedFrame) (rest : List Bool) (read : CodedFrame × List Bool) → ◌≡◌ {A = Result (CodedFrame × List Bool) PacketFault} (Ok (with_dc_values s c, rest)) (Ok read) → c.intra ≡ read.0.intra
+unfolding with_dc_values
+dc_intra s c rest read e = ap (λ read. read.0.intra) (ok_same (with_dc_values s c, rest) read e)
+
+same_intra : (c d : CodedFrame) → ◌≡◌ {A = Result CodedFrame PacketFault} (Ok c) (Ok d) → c.intra ≡ d.intra
+same_intra c d e = ap (λ c. c.intra) (ok_same c d e)
+
 -- and then the frame
 pub intra_is : (setup : Contents) (s : Shape) (packet : List ℕ) (c : CodedFrame) → All (λ byte. byte < 256) packet → coded_in setup s packet ≡ Ok c → c.intra ≡ not (needs_frame packet)
-unfolding coded_in parsed fields_of with_dc_values
+unfolding coded_in parsed fields_of
 intra_is setup s [] c small e = let none = nothing_said setup s in cc
 intra_is setup s (byte ∷ bytes) c small e =
     let whole = both (parsed setup s (bits_of (byte ∷ bytes))) (λ read. Ok read.0) c e in
@@ -56,9 +67,9 @@ intra_is setup s (byte ∷ bytes) c small e =
     let motion = both (motion_of s head.value.0.intra head.value.1) (λ motion. residue_of setup s (length head.value.0.qis) motion.0.flags motion.1 >>= (λ residue. Ok (joined_fields head.value.0 motion.0 residue.0, residue.1))) fields.value head.then in
     let residue = both (residue_of setup s (length head.value.0.qis) motion.value.0.flags motion.value.1) (λ residue. Ok (joined_fields head.value.0 motion.value.0 residue.0, residue.1)) fields.value motion.then in
     let said = head_intra byte bytes head.value head.was in
-    let one : head.value.0.intra ≡ fields.value.0.intra = ap (λ read. read.0.intra) (ok_same (joined_fields head.value.0 motion.value.0 residue.value.0, residue.value.1) fields.value residue.then) in
-    let two : fields.value.0.intra ≡ whole.value.0.intra = ap (λ read. read.0.intra) (ok_same (with_dc_values s fields.value.0, fields.value.1) whole.value fields.then) in
-    let three : whole.value.0.intra ≡ c.intra = ap (λ c. c.intra) (ok_same whole.value.0 c whole.then) in
+    let one : head.value.0.intra ≡ fields.value.0.intra = joined_intra head.value.0 motion.value.0 residue.value.0 residue.value.1 fields.value residue.then in
+    let two : fields.value.0.intra ≡ whole.value.0.intra = dc_intra s fields.value.0 fields.value.1 whole.value fields.then in
+    let three : whole.value.0.intra ≡ c.intra = same_intra whole.value.0 c whole.then in
     let four : bit_of 6 byte ≡ is_inter byte = second_bit byte (All-head (λ byte. byte < 256) byte bytes small) said.0 in
     sym three ∙ sym two ∙ sym one ∙ said.1 ∙ ap not four
 

@@ -105,16 +105,30 @@ fn a_packet_says_its_fields(rt: HostRuntime) -> Result<(), Fail> {
     Ok(())
 }
 
+// Two packets parsed into the same lists.
+fn parse_both(
+    rt: &impl Abort,
+    alloc: Global,
+    geom: &Geom,
+    setup: &Setup,
+    first: &Said,
+    second: &Said,
+) -> Result<(), Fail> {
+    let mut coded = Coded::new(alloc, geom)?;
+    let mut work = Work::new(alloc, geom)?;
+    parse_into(geom, setup, first.packet, &mut coded, &mut work)?;
+    parse_into(geom, setup, second.packet, &mut coded, &mut work)?;
+    assert_says(rt, &coded, second);
+    Ok(())
+}
+
 #[test]
 fn lists_that_are_used_again_say_the_next_packet_alone(rt: HostRuntime) -> Result<(), Fail> {
     let geom = one_macro_block(&rt, rt.alloc());
     let setup = setup_of(&rt, rt.alloc());
-    let mut coded = Coded::new(rt.alloc(), &geom)?;
-    let mut work = Work::new(rt.alloc(), &geom)?;
-    for _ in 0..2 {
-        for said in &PACKETS {
-            parse_into(&geom, &setup, said.packet, &mut coded, &mut work)?;
-            assert_says(&rt, &coded, said);
+    for first in &PACKETS {
+        for second in &PACKETS {
+            parse_both(&rt, rt.alloc(), &geom, &setup, first, second)?;
         }
     }
     Ok(())
@@ -169,17 +183,28 @@ const JUDGED: [(&[u8], bool, Result<(), PacketFault>); 9] = [
     (&[0x1e, 0x00, 0x01, 0xc0, 0x00], true, Ok(())),
 ];
 
+// The verdict on a packet, twice in the same lists.
+fn judge(
+    rt: &impl Abort,
+    alloc: Global,
+    geom: &Geom,
+    packet: &[u8],
+    started: bool,
+) -> Result<[Result<(), PacketFault>; 2], Fail> {
+    let setup = setup_of(rt, alloc);
+    let mut coded = Coded::new(alloc, geom)?;
+    let mut work = Work::new(alloc, geom)?;
+    let first = check_frame(geom, &setup, packet, started, &mut coded, &mut work);
+    let second = check_blank(geom, &setup, packet, started, &mut coded, &mut work);
+    Ok([first, second])
+}
+
 #[test]
 fn the_first_packet_is_that_of_a_key_frame(rt: HostRuntime) -> Result<(), Fail> {
     let geom = one_macro_block(&rt, rt.alloc());
-    let setup = setup_of(&rt, rt.alloc());
-    let mut coded = Coded::new(rt.alloc(), &geom)?;
-    let mut work = Work::new(rt.alloc(), &geom)?;
     for (packet, started, verdict) in JUDGED {
-        let got = check_frame(&geom, &setup, packet, started, &mut coded, &mut work);
-        assert!(rt; got == verdict, "{packet:?}");
-        let again = check_blank(&geom, &setup, packet, started, &mut coded, &mut work);
-        assert!(rt; again == verdict, "{packet:?}");
+        let got = judge(&rt, rt.alloc(), &geom, packet, started)?;
+        assert!(rt; got == [verdict; 2], "{packet:?}");
     }
     Ok(())
 }
