@@ -29,3 +29,6 @@ pub use frame::rebuild_frame;
 pub use kind::Kind;
 pub use parsing::{parse_frame, parse_into};
 pub use work::Work;
+
+#[cfg(test)]
+mod parse_tests;
