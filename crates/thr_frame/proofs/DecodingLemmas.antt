@@ -1,6 +1,6 @@
 -- Steps of a decoder: refused, repeating, and with a frame. `Decoder::step` cites these.
-use Rattle.std.proofs.Common.{◌≡◌, ◌∙◌, ◌&&◌, not, ℕ, Bool, true, false, List, [], ◌∷◌, Option, Some, None, Result, Ok, Err, is_some, refl, sym, ap, subst}
-use Rattle.std.proofs.lemmas.Bool.{true≢false}
+use Rattle.std.proofs.Common.{◌≡◌, ◌∙◌, ◌&&◌, not, ℕ, Bool, true, false, List, [], ◌∷◌, Option, Some, None, Result, Ok, Err, is_some, refl, sym, ap, length, ◌==◌, arith, if◌then◌else◌}
+use Rattle.std.proofs.lemmas.Bool.{true≢false, eqb-true}
 use Rattle.vid_base.specs.declared.shape.Shape.{Shape}
 use Rattle.vid_base.specs.declared.fault.PacketFault.{PacketFault}
 use Rattle.vid_base.specs.declared.fault.PacketFault.TheVariants.{FirstNotKey}
@@ -51,38 +51,41 @@ started_before : (b : Bool) → (not b && true) ≡ false → b ≡ true
 started_before true h = refl
 started_before false h = absurd (true≢false h)
 
-pub repeat_next : (ident : Ident) (setup : Contents) (s : Shape) (r : References) → IsStore s r → (not r.started && needs_frame []) ≡ false
-    → IsNext (record { ident = ident; setup = setup; shape = s; state = state_of r }) [] (record { ident = ident; setup = setup; shape = s; state = state_of r })
+pub repeat_next : (ident : Ident) (setup : Contents) (s : Shape) (r : References) (packet : List ℕ) → IsStore s r → (length packet == 0) ≡ true → (not r.started && needs_frame packet) ≡ false
+    → IsNext (record { ident = ident; setup = setup; shape = s; state = state_of r }) packet (record { ident = ident; setup = setup; shape = s; state = state_of r })
 unfolding packet_in
-repeat_next ident setup s r is has =
+repeat_next ident setup s r [] is none has =
     let some : state_of r ≡ Some (pair_in r) = state_is r (started_before r.started has) in record {
       pair = pair_in r;
       steps = step_goes setup s r [] has ∙ ap (λ (p : Pair). Ok p) (state_pair s r is.fresh);
       becomes = ap (λ (o : Option Pair). let d : Decoding = record { ident = ident; setup = setup; shape = s; state = o } in d) some;
     }
+repeat_next ident setup s r (byte ∷ bytes) is none has = let e : length (byte ∷ bytes) ≡ 0 = eqb-true (length (byte ∷ bytes)) 0 none in absurd (omega arith)
 
 -- one with bytes
-pub step_faulty : (setup : Contents) (s : Shape) (r : References) (byte : ℕ) (bytes : List ℕ) (fault : PacketFault) → (not r.started && needs_frame (byte ∷ bytes)) ≡ false
-    → coded_in setup s (byte ∷ bytes) ≡ Err fault → step setup s (state_of r) (byte ∷ bytes) ≡ Err fault
+pub step_faulty : (setup : Contents) (s : Shape) (r : References) (packet : List ℕ) (fault : PacketFault) → (length packet == 0) ≡ false → (not r.started && needs_frame packet) ≡ false
+    → coded_in setup s packet ≡ Err fault → step setup s (state_of r) packet ≡ Err fault
 unfolding packet_in
-step_faulty setup s r byte bytes fault has e = step_goes setup s r (byte ∷ bytes) has ∙ rw e refl
+step_faulty setup s r [] fault some has e = absurd (true≢false some)
+step_faulty setup s r (byte ∷ bytes) fault some has e = step_goes setup s r (byte ∷ bytes) has ∙ rw e refl
 
-pub step_decoded : (setup : Contents) (s : Shape) (r : References) (byte : ℕ) (bytes : List ℕ) (next : Pair) → IsStore s r → (not r.started && needs_frame (byte ∷ bytes)) ≡ false
-    → decoded setup s (pair_in r) (byte ∷ bytes) ≡ Ok next → step setup s (state_of r) (byte ∷ bytes) ≡ Ok next
+step_decoded : (setup : Contents) (s : Shape) (r : References) (packet : List ℕ) (next : Pair) → IsStore s r → (length packet == 0) ≡ false → (not r.started && needs_frame packet) ≡ false
+    → decoded setup s (pair_in r) packet ≡ Ok next → step setup s (state_of r) packet ≡ Ok next
 unfolding packet_in decoded
-step_decoded setup s r byte bytes next is has e = step_goes setup s r (byte ∷ bytes) has ∙ go (coded_in setup s (byte ∷ bytes)) e
+step_decoded setup s r [] next is some has e = absurd (true≢false some)
+step_decoded setup s r (byte ∷ bytes) next is some has e = step_goes setup s r (byte ∷ bytes) has ∙ go (coded_in setup s (byte ∷ bytes)) e
   where
     go : (x : Result CodedFrame PacketFault) → (x >>= (λ c. Ok (behind setup s (pair_in r) c))) ≡ Ok next
         → ((x >>= (λ c. Ok (Some c))) >>= (λ coded. Ok (next_state setup s (state_of r) coded))) ≡ Ok next
     go (Ok c) h = ap (λ (p : Pair). Ok (behind setup s p c)) (state_pair s r is.fresh) ∙ h
     go (Err f) h = h
 
-pub decoded_next : (ident : Ident) (setup : Contents) (s : Shape) (r q : References) (byte : ℕ) (bytes : List ℕ) → IsStore s r → (not r.started && needs_frame (byte ∷ bytes)) ≡ false
-    → decoded setup s (pair_in r) (byte ∷ bytes) ≡ Ok (pair_in q) → q.started ≡ true
-    → IsNext (record { ident = ident; setup = setup; shape = s; state = state_of r }) (byte ∷ bytes) (record { ident = ident; setup = setup; shape = s; state = state_of q })
-decoded_next ident setup s r q byte bytes is has e started = record {
+pub decoded_next : (ident : Ident) (setup : Contents) (s : Shape) (r q : References) (packet : List ℕ) → IsStore s r → (length packet == 0) ≡ false → (not r.started && needs_frame packet) ≡ false
+    → decoded setup s (pair_in r) packet ≡ Ok (pair_in q) → q.started ≡ true
+    → IsNext (record { ident = ident; setup = setup; shape = s; state = state_of r }) packet (record { ident = ident; setup = setup; shape = s; state = state_of q })
+decoded_next ident setup s r q packet is some has e started = record {
   pair = pair_in q;
-  steps = step_decoded setup s r byte bytes (pair_in q) is has e;
+  steps = step_decoded setup s r packet (pair_in q) is some has e;
   becomes = ap (λ (o : Option Pair). let d : Decoding = record { ident = ident; setup = setup; shape = s; state = o } in d) (state_is q started);
 }
 
