@@ -12,3 +12,5 @@ pub mod FilteredLemmas
 pub mod StateLemmas
 pub mod DecodingLemmas
 pub mod KeyLemmas
+pub mod IntraLemmas
+pub mod FramesLemmas
