@@ -14,3 +14,4 @@ pub mod DecodingLemmas
 pub mod KeyLemmas
 pub mod IntraLemmas
 pub mod FramesLemmas
+pub mod ShapeLemmas

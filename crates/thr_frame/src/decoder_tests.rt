@@ -72,11 +72,7 @@ const STEPS: [(&[u8], Result<Kind, PacketFault>, u8); 12] = [
     (&[0x1e, 0x00], Err(PacketFault::Ended), 0),
     (GREY, Ok(Kind::Intra), 128),
     (STILL, Ok(Kind::Inter), 128),
-    (
-        &[0x3f, 0x00, 0x04, 0x8d, 0x00, 0x00],
-        Ok(Kind::Intra),
-        128,
-    ),
+    (&[0x3f, 0x00, 0x04, 0x8d, 0x00, 0x00], Ok(Kind::Intra), 128),
     (LIGHT, Ok(Kind::Intra), 129),
     (&[], Ok(Kind::Repeat), 129),
     (&[0x1e, 0x00], Err(PacketFault::Ended), 129),

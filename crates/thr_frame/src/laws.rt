@@ -3,6 +3,8 @@ ghost use Rattle.std.specs.Prelude.{◌≡◌, ◌<◌, ◌+◌, ◌++◌, ℕ, 
 ghost use Rattle.vid_base.specs.declared.fault.PacketFault.{PacketFault};
 ghost use Rattle.vid_base.specs.declared.shape.Shape.{Shape};
 ghost use Rattle.thr_setup.specs.Setup.{Contents};
+ghost use Rattle.thr_ident.specs.declared.ident.Ident.{Ident};
+ghost use Rattle.thr_frame.specs.Decoding.{IsShapeOf};
 ghost use Rattle.thr_frame.specs.CodedFrame.{CodedFrame};
 ghost use Rattle.thr_frame.specs.Parsed.{coded_in, frame_in, needs_frame};
 ghost use Rattle.vid_plane.specs.declared.frame.Frame.{Frame};
@@ -51,4 +53,9 @@ pub fn frames_follow_one_another()
         → frames_from setup s state packets ≡ Ok frames → frames_from setup s state (take n packets) ≡ Ok (take n frames) }
     ensures join { (setup : Contents) (s : Shape) (state : Option Pair) (first others : List (List ℕ))
         → frames_from setup s state (first ++ others) ≡ frames_through setup s state first others }
+{}
+
+/// A header says one shape, so decoders of one header have one.
+pub fn headers_say_one_shape()
+    ensures { (ident : Ident) (a b : Shape) → IsShapeOf ident a → IsShapeOf ident b → a ≡ b }
 {}
