@@ -1,0 +1,3 @@
+pub mod PictureLemmas
+pub mod CropLemmas
+pub mod TextLemmas

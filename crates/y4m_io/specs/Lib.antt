@@ -1,0 +1,5 @@
+pub mod Pictures
+pub mod Heads
+pub mod Parts
+pub mod Y4m
+pub mod Crop

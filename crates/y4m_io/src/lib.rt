@@ -1,0 +1,20 @@
+//! Pictures and YUV4MPEG2 (own): pictures of three planes, rows from the top, and the text that carries them.
+//!
+//! Above this crate only this is used: `Picture::crop` gives `crop_of` a decoded frame; `write_head` and `write_frame` append
+//! `head_text` and `frame_text`, so that an output is `y4m_of` its pictures.
+#![tactic(auto)]
+
+mod crop;
+mod head;
+mod laws;
+mod line;
+mod picture;
+mod writing;
+
+pub use head::Head;
+pub use laws::{pictures_by_size, pictures_of_streams, texts_by_pictures};
+pub use picture::Picture;
+pub use writing::{write_frame, write_head};
+
+#[cfg(test)]
+mod tests;
