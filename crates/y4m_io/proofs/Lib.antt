@@ -1,3 +1,6 @@
 pub mod PictureLemmas
 pub mod CropLemmas
 pub mod TextLemmas
+pub mod PlaceLemmas
+pub mod NumberLemmas
+pub mod FieldLemmas

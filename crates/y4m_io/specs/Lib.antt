@@ -3,3 +3,11 @@ pub mod Heads
 pub mod Parts
 pub mod Y4m
 pub mod Crop
+pub mod Places
+pub mod Numbers
+pub mod Steps
+pub mod HeadLine
+pub mod Fields
+pub mod HeadView
+pub mod Reading
+pub mod Progress

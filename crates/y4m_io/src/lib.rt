@@ -5,15 +5,24 @@
 #![tactic(auto)]
 
 mod crop;
+mod fault;
+mod field;
 mod head;
+mod head_line;
+mod input;
 mod laws;
 mod line;
+mod number;
 mod picture;
+mod place;
+mod reading;
 mod writing;
 
+pub use fault::{Y4mFault, Y4mWhy};
 pub use head::Head;
 pub use laws::{pictures_by_size, pictures_of_streams, texts_by_pictures};
 pub use picture::Picture;
+pub use reading::Y4m;
 pub use writing::{write_frame, write_head};
 
 #[cfg(test)]
