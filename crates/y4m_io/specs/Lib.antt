@@ -9,5 +9,6 @@ pub mod Steps
 pub mod HeadLine
 pub mod Fields
 pub mod HeadView
+pub mod Planes
 pub mod Reading
 pub mod Progress

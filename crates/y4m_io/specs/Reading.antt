@@ -71,15 +71,15 @@ pub record Departure : Type 0 where
   pub frame : ℕ
   pub why : Y4mWhy
 
--- behind n frames stand these pictures, and then that departure, or the end
-unfoldable pub GoesOn : Head → ℕ → List ℕ → List Samples → Option Departure → Type 0
-GoesOn h n bytes [] None = next_in h n bytes ≡ Ok None
-GoesOn h n bytes [] (Some d) = (next_in h n bytes ≡ Err d.why) × (d.frame ≡ n)
-GoesOn h n bytes (p ∷ ps) bad = (size : ℕ) × (next_in h n bytes ≡ Ok (Some (record { picture = p; size = size }))) × GoesOn h (n + 1) (drop size bytes) ps bad
+-- from byte `at` on, behind n frames, stand these pictures, and then that departure, or the end
+unfoldable pub GoesOn : Head → ℕ → ℕ → List ℕ → List Samples → Option Departure → Type 0
+GoesOn h n at bytes [] None = next_in h n (drop at bytes) ≡ Ok None
+GoesOn h n at bytes [] (Some d) = (next_in h n (drop at bytes) ≡ Err d.why) × (d.frame ≡ n)
+GoesOn h n at bytes (p ∷ ps) bad = (size : ℕ) × (next_in h n (drop at bytes) ≡ Ok (Some (record { picture = p; size = size }))) × GoesOn h (n + 1) (at + size) bytes ps bad
 
 -- a text has that head, these pictures, and then that departure, where there is one
 unfoldable pub IsY4m : List ℕ → Head → List Samples → Option Departure → Type 0
-IsY4m bytes head pictures bad = (size : ℕ) × (head_in (take longest_head bytes) ≡ Ok (record { head = head; size = size })) × GoesOn head 0 (drop size bytes) pictures bad
+IsY4m bytes head pictures bad = (size : ℕ) × (head_in (take longest_head bytes) ≡ Ok (record { head = head; size = size })) × GoesOn head 0 size bytes pictures bad
 
 -- a text departs in its head
 abbrev pub HasBadHead : List ℕ → Y4mWhy → Type 0

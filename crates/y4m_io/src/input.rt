@@ -1,7 +1,10 @@
 // Reading an input in pieces (own).
-ghost use Rattle.std.specs.Prelude.{◌≡◌, ◌+◌, ◌-◌, ◌<◌, ◌≤◌, IfOk, OnOk, OnErr, length, take, drop, min};
+ghost use Rattle.std.specs.Prelude.{◌≡◌, ◌+◌, ◌-◌, ◌<◌, ◌≤◌, IfOk, OnOk, OnErr, length, take, drop, min, vec_len};
 ghost use Rattle.vid_desk.specs.Meaning.{Rose, Told, with_reads};
+ghost use Rattle.y4m_io.specs.Pictures.{samples_of};
+ghost use Rattle.y4m_io.specs.Planes.{ArePlanes, IsLike};
 
+use crate::picture::Picture;
 use vid_desk::{Desk, Failed};
 
 /// An input and its length in bytes.
@@ -26,23 +29,59 @@ impl Input {
         desk.read_at(self.id, at, into)
     }
 
-    /// Reads as much of a list as there are bytes from `at` on, and gives their number. Where there are none, nothing is read.
-    pub(crate) fn read_front<D: Desk>(&self, desk: &mut D, at: u64, front: &mut [u8]) -> Result<usize, Failed>
+    // Reads as many bytes from `at` on as there are, but no more than that, and gives their number. Where there are none, nothing
+    // is read.
+    fn read_most<D: Desk>(&self, desk: &mut D, at: u64, most: usize, front: &mut [u8]) -> Result<usize, Failed>
         requires id { self.now.id < (D.sees desk.old).found }
         requires size { Told (D.sees desk.old) self.now.id (λ bytes. self.now.size ≡ length bytes) }
         requires within { at ≤ self.now.size }
-        ensures bytes { IfOk result (λ n. Told (D.sees desk.old) self.now.id (λ bytes. take n front.new ≡ take (length front.old) (drop at bytes))) }
-        ensures many { IfOk result (λ n. n ≡ min (self.now.size - at) (length front.old)) }
+        requires room { most ≤ length front.old }
+        ensures bytes { IfOk result (λ n. Told (D.sees desk.old) self.now.id (λ bytes. take n front.new ≡ take most (drop at bytes))) }
+        ensures many { IfOk result (λ n. n ≡ min (self.now.size - at) most) }
         ensures sized { length front.new ≡ length front.old }
         ensures kept { with_reads (D.sees desk.old) (D.sees desk.new) }
         ensures count { (D.sees desk.old).read_faults ≤ (D.sees desk.new).read_faults }
         ensures cause { OnErr result (Rose (D.sees desk.old).read_faults (D.sees desk.new).read_faults) }
     {
-        let count = (self.size - at).min(front.len() as u64) as usize;
+        let count = (self.size - at).min(most as u64) as usize;
         if count == 0 {
             return Ok(0);
         }
         self.read(desk, at, &mut front[..count])?;
         Ok(count)
+    }
+
+    /// The same, to the front of a list.
+    pub(crate) fn read_front<D: Desk>(&self, desk: &mut D, at: u64, most: usize, front: &mut Vec<u8>) -> Result<usize, Failed>
+        requires id { self.now.id < (D.sees desk.old).found }
+        requires size { Told (D.sees desk.old) self.now.id (λ bytes. self.now.size ≡ length bytes) }
+        requires within { at ≤ self.now.size }
+        requires room { most ≤ vec_len front.old }
+        ensures bytes { IfOk result (λ n. Told (D.sees desk.old) self.now.id (λ bytes. take n front.new.items ≡ take most (drop at bytes))) }
+        ensures many { IfOk result (λ n. n ≡ min (self.now.size - at) most) }
+        ensures sized { vec_len front.new ≡ vec_len front.old }
+        ensures kept { with_reads (D.sees desk.old) (D.sees desk.new) }
+        ensures count { (D.sees desk.old).read_faults ≤ (D.sees desk.new).read_faults }
+        ensures cause { OnErr result (Rose (D.sees desk.old).read_faults (D.sees desk.new).read_faults) }
+    {
+        self.read_most(desk, at, most, front.as_mut_slice())
+    }
+
+    /// Fills the planes of a picture with the bytes from `at` on.
+    pub(crate) fn read_planes<D: Desk>(&self, desk: &mut D, at: u64, into: &mut Picture) -> Result<(), Failed>
+        requires id { self.now.id < (D.sees desk.old).found }
+        requires size { Told (D.sees desk.old) self.now.id (λ bytes. self.now.size ≡ length bytes) }
+        requires within { at + (vec_len into.old.y + vec_len into.old.cb + vec_len into.old.cr) ≤ self.now.size }
+        ensures planes { OnOk result (Told (D.sees desk.old) self.now.id (ArePlanes (samples_of into.old) (samples_of into.new) at)) }
+        ensures sized { IsLike (samples_of into.old) (samples_of into.new) }
+        ensures kept { with_reads (D.sees desk.old) (D.sees desk.new) }
+        ensures count { (D.sees desk.old).read_faults ≤ (D.sees desk.new).read_faults }
+        ensures cause { OnErr result (Rose (D.sees desk.old).read_faults (D.sees desk.new).read_faults) }
+    {
+        let cb = at + into.y.len() as u64;
+        let cr = cb + into.cb.len() as u64;
+        self.read(desk, at, &mut into.y)?;
+        self.read(desk, cb, &mut into.cb)?;
+        self.read(desk, cr, &mut into.cr)
     }
 }

@@ -7,6 +7,7 @@
 mod crop;
 mod fault;
 mod field;
+mod frame_line;
 mod head;
 mod head_line;
 mod input;
