@@ -1,5 +1,5 @@
 -- The fields of a head, one by one. The readers of heads cite these.
-use Rattle.std.proofs.Common.{◌≡◌, ◌∙◌, ℕ, List, [], ◌∷◌, Ok, Err, sym, ap, refl}
+use Rattle.std.proofs.Common.{◌≡◌, ℕ, List, [], ◌∷◌, Ok, Err, ap, refl}
 use Rattle.y4m_io.specs.declared.fault.Y4mWhy.{Y4mWhy}
 use Rattle.y4m_io.specs.HeadLine.{Said, with_field, with_fields}
 use Rattle.y4m_io.specs.Steps.{◌>>=◌}

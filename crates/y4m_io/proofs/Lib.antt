@@ -4,3 +4,4 @@ pub mod TextLemmas
 pub mod PlaceLemmas
 pub mod NumberLemmas
 pub mod FieldLemmas
+pub mod ReadingLemmas

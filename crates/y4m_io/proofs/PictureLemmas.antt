@@ -1,5 +1,5 @@
 -- Sizes of pictures, and when two are one. The calls of `picture`, `crop` and `writing` cite these, and crates above.
-use Rattle.std.proofs.Common.{◌≡◌, ℕ, ◌+◌, ◌*◌, ◌/◌, ◌≤◌, List, refl, sym, subst, ◌∙◌, ap, arith}
+use Rattle.std.proofs.Common.{◌≡◌, ℕ, ◌+◌, ◌*◌, ◌/◌, ◌≤◌, List, refl, sym, subst, arith}
 use Rattle.std.proofs.lemmas.Bool.Decides.{nat_tests}
 use Rattle.std.proofs.lemmas.Nat.{mul-le}
 use Rattle.y4m_io.specs.Pictures.{Samples, chroma_columns, chroma_rows, IsPicture, IsPictureOf, IsSize}

@@ -1,6 +1,6 @@
 -- The parts of a text, one by one. The readers of parts cite these.
 use Rattle.std.proofs.Common.{◌≡◌, ◌∙◌, ℕ, suc, ◌+◌, ◌-◌, ◌<◌, ◌≤◌, Bool, true, false, cond, List, [], ◌∷◌, length, take, drop, Some, None, refl, ap, sym, arith, eqb}
-use Rattle.std.specs.List.{slice_split, onto_first, position_from}
+use Rattle.std.specs.List.{onto_first, position_from}
 use Rattle.y4m_io.specs.Places.{first_place, parts_of}
 
 -- a first part, and the text behind its separator; places count from k

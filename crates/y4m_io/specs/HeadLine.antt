@@ -1,6 +1,6 @@
 -- The line of a head (own): a first word, and fields with one space before each; a field is a letter and a text.
-use Rattle.std.specs.Prelude.{ℕ, ◌+◌, ◌-◌, ◌*◌, ◌/◌, ◌^◌, ◌<◌, ◌≤◌, Bool, true, false, not, List, [], ◌∷◌, length, take, drop, Option, Some, None, Result, Ok, Err, ◌==◌, ◌&&◌, ◌||◌, nat_eq, nat_le, codes, if◌then◌else◌}
-use Rattle.std.specs.List.{starts_with, take_while}
+use Rattle.std.specs.Prelude.{ℕ, ◌+◌, ◌*◌, ◌/◌, ◌^◌, ◌<◌, ◌≤◌, Bool, true, false, List, [], ◌∷◌, take, drop, Option, Some, None, Result, Ok, Err, ◌==◌, ◌&&◌, ◌||◌, nat_eq, nat_le, codes, if◌then◌else◌}
+use Rattle.std.specs.List.{starts_with}
 use Rattle.std.specs.Option.{ok_or, option_map_or}
 use Rattle.std.specs.Str.{bytes_eq}
 use Rattle.y4m_io.specs.declared.head.Head.{Head}

@@ -5,7 +5,7 @@ use Rattle.y4m_io.specs.declared.head.Head.{Head}
 use Rattle.y4m_io.specs.declared.reading.Y4m.{Y4m}
 use Rattle.y4m_io.specs.declared.fault.Y4mWhy.{Y4mWhy}
 use Rattle.y4m_io.specs.declared.fault.Y4mFault.{Y4mFault}
-use Rattle.y4m_io.specs.declared.fault.Y4mFault.TheVariants.{Bad, ReadFault, NoMem}
+use Rattle.y4m_io.specs.declared.fault.Y4mFault.TheVariants.{Bad}
 use Rattle.y4m_io.specs.Pictures.{Samples}
 use Rattle.y4m_io.specs.Reading.{Departure, GoesOn, HasBadHead, line_in, longest_line, next_in}
 use Rattle.y4m_io.specs.HeadLine.{head_in, longest_head}
@@ -56,6 +56,11 @@ Finds (Err _) p picture bytes = ⊤
 abbrev pub IfFound : Progress → Option ℕ → Type 0
 IfFound p (Some size) = (p.at + size ≤ p.size) × (p.frames < 2 ^ 24)
 IfFound p None = 0 < p.frames
+
+-- a departure is said of the frame that comes next
+abbrev pub IsNumbered : {A : Type 0} → Progress → Result A Y4mFault → Type 0
+IsNumbered p (Err (Bad frame why)) = frame ≡ p.frames
+IsNumbered p _ = ⊤
 
 -- the same of the line of a frame
 abbrev pub FindsLine : Result ℕ Y4mFault → Progress → List ℕ → Type 0

@@ -5,7 +5,7 @@ use Rattle.std.specs.Option.{ok_or}
 use Rattle.y4m_io.specs.declared.head.Head.{Head}
 use Rattle.y4m_io.specs.declared.fault.Y4mWhy.{Y4mWhy}
 use Rattle.y4m_io.specs.declared.fault.Y4mWhy.TheVariants.{Line, Frame, Short, Empty, TooMany}
-use Rattle.y4m_io.specs.HeadLine.{HeadRead, head_in, longest_head}
+use Rattle.y4m_io.specs.HeadLine.{head_in, longest_head}
 use Rattle.y4m_io.specs.Pictures.{Samples, chroma_columns, chroma_rows}
 use Rattle.y4m_io.specs.Places.{first_place}
 use Rattle.y4m_io.specs.Steps.{◌>>=◌}

@@ -35,7 +35,11 @@ fn format_named(text: &[u8]) -> Option<u8>
     ensures value { result ≡ format_named text.now }
     ensures known { IfSome result (λ f. (f ≤ 3) × (f ≢ 1)) }
 {
-    if text == b"420jpeg".as_slice() || text == b"420mpeg2".as_slice() || text == b"420paldv".as_slice() || text == b"420".as_slice() {
+    if text == b"420jpeg".as_slice()
+        || text == b"420mpeg2".as_slice()
+        || text == b"420paldv".as_slice()
+        || text == b"420".as_slice()
+    {
         return Some(0);
     }
     if text == b"422".as_slice() {

@@ -16,6 +16,7 @@ const MAGIC: [u8; 9] = *b"YUV4MPEG2";
 
 /// The most macro blocks of a coded frame along an axis, and in all (own).
 const MOST_ALONG: u64 = 65_535;
+
 const MOST_IN_ALL: u64 = 131_072;
 
 /// A head, and how many bytes it takes with its line feed.

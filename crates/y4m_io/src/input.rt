@@ -31,7 +31,13 @@ impl Input {
 
     // Reads as many bytes from `at` on as there are, but no more than that, and gives their number. Where there are none, nothing
     // is read.
-    fn read_most<D: Desk>(&self, desk: &mut D, at: u64, most: usize, front: &mut [u8]) -> Result<usize, Failed>
+    fn read_most<D: Desk>(
+        &self,
+        desk: &mut D,
+        at: u64,
+        most: usize,
+        front: &mut [u8],
+    ) -> Result<usize, Failed>
         requires id { self.now.id < (D.sees desk.old).found }
         requires size { Told (D.sees desk.old) self.now.id (λ bytes. self.now.size ≡ length bytes) }
         requires within { at ≤ self.now.size }
@@ -52,7 +58,13 @@ impl Input {
     }
 
     /// The same, to the front of a list.
-    pub(crate) fn read_front<D: Desk>(&self, desk: &mut D, at: u64, most: usize, front: &mut Vec<u8>) -> Result<usize, Failed>
+    pub(crate) fn read_front<D: Desk>(
+        &self,
+        desk: &mut D,
+        at: u64,
+        most: usize,
+        front: &mut Vec<u8>,
+    ) -> Result<usize, Failed>
         requires id { self.now.id < (D.sees desk.old).found }
         requires size { Told (D.sees desk.old) self.now.id (λ bytes. self.now.size ≡ length bytes) }
         requires within { at ≤ self.now.size }
@@ -68,7 +80,12 @@ impl Input {
     }
 
     /// Fills the planes of a picture with the bytes from `at` on.
-    pub(crate) fn read_planes<D: Desk>(&self, desk: &mut D, at: u64, into: &mut Picture) -> Result<(), Failed>
+    pub(crate) fn read_planes<D: Desk>(
+        &self,
+        desk: &mut D,
+        at: u64,
+        into: &mut Picture,
+    ) -> Result<(), Failed>
         requires id { self.now.id < (D.sees desk.old).found }
         requires size { Told (D.sees desk.old) self.now.id (λ bytes. self.now.size ≡ length bytes) }
         requires within { at + (vec_len into.old.y + vec_len into.old.cb + vec_len into.old.cr) ≤ self.now.size }

@@ -47,7 +47,7 @@ fn zeros(alloc: Global, count: usize) -> Result<Vec<u8>, AllocError>
 }
 
 impl Y4m {
-    ghost use Rattle.y4m_io.specs.Progress.{progress_of, IsOfInput, IsStart, StopsIn, Finds, FindsLine, IfFound, Gives, Turns};
+    ghost use Rattle.y4m_io.specs.Progress.{progress_of, IsOfInput, IsStart, StopsIn, Finds, FindsLine, IfFound, IsNumbered, Gives, Turns};
 
     /// Reads the head. `Bad` is its first departure; its frame is 0.
     pub fn start<D: Desk>(alloc: Global, desk: &mut D, id: u32) -> Result<Y4m, Y4mFault>
@@ -92,6 +92,7 @@ impl Y4m {
         requires of { IsOfInput (D.sees desk.old) (progress_of self.old) }
         ensures line { Told (D.sees desk.old) (progress_of self.old).input (FindsLine result (progress_of self.old)) }
         ensures within { IfOk result (λ line. line ≤ (progress_of self.old).size - (progress_of self.old).at) }
+        ensures numbered { IsNumbered (progress_of self.old) result }
         ensures same { progress_of self.new ≡ progress_of self.old }
         ensures memory { ¬ IsErrOf result Y4mFault.NoMem }
         ensures kept { with_reads (D.sees desk.old) (D.sees desk.new) }
@@ -110,12 +111,17 @@ impl Y4m {
     }
 
     // Reads what comes next: a picture, of which it gives the number of bytes, or the end.
-    fn next_frame<D: Desk>(&mut self, desk: &mut D, into: &mut Picture) -> Result<Option<usize>, Y4mFault>
+    fn next_frame<D: Desk>(
+        &mut self,
+        desk: &mut D,
+        into: &mut Picture,
+    ) -> Result<Option<usize>, Y4mFault>
         requires id { (progress_of self.old).input < (D.sees desk.old).found }
         requires of { IsOfInput (D.sees desk.old) (progress_of self.old) }
         requires into { IsPictureOf self.old.head.w self.old.head.h self.old.head.pf (samples_of into.old) }
         ensures found { Told (D.sees desk.old) (progress_of self.old).input (Finds result (progress_of self.old) (samples_of into.new)) }
         ensures within { IfOk result (IfFound (progress_of self.old)) }
+        ensures numbered { IsNumbered (progress_of self.old) result }
         ensures same { progress_of self.new ≡ progress_of self.old }
         ensures memory { ¬ IsErrOf result Y4mFault.NoMem }
         ensures into { IsLike (samples_of into.old) (samples_of into.new) }
@@ -126,18 +132,30 @@ impl Y4m {
         let frame = self.frames;
         if self.at == self.input.size {
             return if frame == 0 {
-                Err(Y4mFault::Bad { frame, why: Y4mWhy::Empty })
+                Err(Y4mFault::Bad {
+                    frame,
+                    why: Y4mWhy::Empty,
+                })
             } else {
                 Ok(None)
             };
         }
         if frame >= MOST_FRAMES {
-            return Err(Y4mFault::Bad { frame, why: Y4mWhy::TooMany });
+            return Err(Y4mFault::Bad {
+                frame,
+                why: Y4mWhy::TooMany,
+            });
         }
-        let line = self.next_line(desk)?;
+        let line = match self.next_line(desk) {
+            Ok(line) => line,
+            Err(fault) => return Err(fault),
+        };
         let planes = into.y.len() + into.cb.len() + into.cr.len();
         if self.input.size - self.at - (line as u64) < planes as u64 {
-            return Err(Y4mFault::Bad { frame, why: Y4mWhy::Short });
+            return Err(Y4mFault::Bad {
+                frame,
+                why: Y4mWhy::Short,
+            });
         }
         self.input.read_planes(desk, self.at + line as u64, into)?;
         Ok(Some(line + planes))

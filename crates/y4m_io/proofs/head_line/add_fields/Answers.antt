@@ -1,4 +1,4 @@
-use Rattle.std.proofs.Common.{◌≡◌, ◌∙◌, [], sym, ap, refl}
+use Rattle.std.proofs.Common.{◌∙◌, [], sym, ap}
 use Rattle.std.specs.Option.{option_map_or}
 use Rattle.y4m_io.specs.Fields.{said_by}
 use Rattle.y4m_io.specs.HeadLine.{with_fields}

@@ -1,6 +1,4 @@
-use Rattle.std.proofs.Common.{◌≡◌, arith, rules, true}
-use Rattle.std.proofs.lemmas.Grind.{common_steps}
-use Rattle.y4m_io.specs.HeadLine.{head_said, is_small, IsHead}
+use Rattle.std.proofs.Common.{rules}
 use Rattle.y4m_io.proofs.head_line.head_of.Goals as goal
 
 pub returns-clause-sound : goal.returns-clause-sound

@@ -1,4 +1,4 @@
-use Rattle.std.proofs.Common.{◌≡◌, ◌∙◌, ◌+◌, ◌*◌, ap, arith, refl, add-one}
+use Rattle.std.proofs.Common.{◌∙◌, ◌+◌, ◌*◌, ap, arith, refl, add-one}
 use Rattle.std.specs.Prelude.{min}
 use Rattle.y4m_io.proofs.NumberLemmas.{digit_more}
 use Rattle.y4m_io.proofs.number.decimal.Goals as goal
