@@ -5,3 +5,4 @@ pub mod PlaceLemmas
 pub mod NumberLemmas
 pub mod FieldLemmas
 pub mod ReadingLemmas
+pub mod PadLemmas

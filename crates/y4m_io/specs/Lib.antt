@@ -3,6 +3,7 @@ pub mod Heads
 pub mod Parts
 pub mod Y4m
 pub mod Crop
+pub mod Pad
 pub mod Places
 pub mod Numbers
 pub mod Steps

@@ -14,6 +14,7 @@ mod input;
 mod laws;
 mod line;
 mod number;
+mod pad;
 mod picture;
 mod place;
 mod reading;
