@@ -1,6 +1,6 @@
 -- What comes next in a stream, case by case, and what follows there. The calls of `Y4m` cite these.
 use Rattle.std.proofs.Common.{◌≡◌, ◌∙◌, ℕ, ◌+◌, ◌<◌, ◌≤◌, true, false, List, [], ◌∷◌, length, take, drop, subst, Some, None, Ok, Err, refl, sym, ap, arith}
-use Rattle.std.specs.Prelude.{Option, nat_eq, nat_le}
+use Rattle.std.specs.Prelude.{Option, nat_eq, nat_le, Result}
 use Rattle.std.proofs.lemmas.Bool.{lt-leb}
 use Rattle.std.proofs.lemmas.List.{drop-drop}
 use Rattle.y4m_io.specs.declared.head.Head.{Head}
@@ -11,8 +11,9 @@ use Rattle.y4m_io.specs.declared.fault.Y4mFault.TheVariants.{Bad, ReadFault, NoM
 use Rattle.y4m_io.specs.Pictures.{Samples, IsPictureOf}
 use Rattle.y4m_io.specs.Planes.{ArePlanes, IsLike}
 use Rattle.y4m_io.specs.Steps.{◌>>=◌}
-use Rattle.y4m_io.specs.Reading.{Departure, GoesOn, chroma_size, luma_size, frame_in, line_in, longest_line, most_frames, next_in, picture_in, planes_size}
-use Rattle.y4m_io.specs.Progress.{Progress, Finds, FindsLine, Follow}
+use Rattle.y4m_io.specs.Reading.{Departure, FrameRead, GoesOn, chroma_size, luma_size, frame_in, line_in, longest_line, most_frames, next_in, picture_in, planes_size, IsY4m, HasBadHead}
+use Rattle.y4m_io.specs.HeadLine.{HeadRead}
+use Rattle.y4m_io.specs.Progress.{Progress, Finds, FindsLine, Follow, IsStart}
 use Rattle.y4m_io.proofs.PictureLemmas.{same_samples}
 
 -- at the end of the input
@@ -96,3 +97,66 @@ follow_more p new size picture bytes good next is pictures bad follow =
     let there : Follow (record p { at = p.at + size; frames = p.frames + 1 }) bytes pictures bad = subst (λ (q : Progress). Follow q bytes pictures bad) is follow in
     let goes_on = rw good at there in
     rw good (size, next, goes_on)
+
+-- what follows the head of a stream is the stream
+pub started_is : (bytes : List ℕ) (p : Progress) (pictures : List Samples) (bad : Option Departure) → IsStart bytes p → Follow p bytes pictures bad → IsY4m bytes p.head pictures bad
+unfolding IsY4m
+started_is bytes p pictures bad start follow =
+    let goes_on = rw start.bad at follow in
+    (p.at, start.head, subst (λ (n : ℕ). GoesOn p.head n p.at bytes pictures bad) start.frames goes_on)
+
+-- the parts of equal values
+same_departure : (m n : ℕ) (v w : Y4mWhy) → m ≡ n → v ≡ w → (let d : Departure = record { frame = m; why = v } in d) ≡ (let e : Departure = record { frame = n; why = w } in e)
+same_departure m n v w e f = rw (e, f) refl
+
+same_frame : (p q : Samples) (s t : ℕ) → (let r : Result (Option FrameRead) Y4mWhy = Ok (Some (record { picture = p; size = s })) in r) ≡ Ok (Some (record { picture = q; size = t })) → (p ≡ q) × (s ≡ t)
+same_frame p q s t e =
+    let r : FrameRead = record { picture = p; size = s } in
+    let u : FrameRead = record { picture = q; size = t } in
+    let same : r ≡ u = cc in
+    (ap (λ (f : FrameRead). f.picture) same, ap (λ (f : FrameRead). f.size) same)
+
+same_read : (h k : Head) (s t : ℕ) → (let r : Result HeadRead Y4mWhy = Ok (record { head = h; size = s }) in r) ≡ Ok (record { head = k; size = t }) → (h ≡ k) × (s ≡ t)
+same_read h k s t e =
+    let r : HeadRead = record { head = h; size = s } in
+    let u : HeadRead = record { head = k; size = t } in
+    let same : r ≡ u = cc in
+    (ap (λ (f : HeadRead). f.head) same, ap (λ (f : HeadRead). f.size) same)
+
+same_list : (p q : Samples) (ps qs : List Samples) → p ≡ q → ps ≡ qs → p ∷ ps ≡ q ∷ qs
+same_list p q ps qs e f = rw (e, f) refl
+
+-- from a place on stands one list of pictures, and one departure
+goes_on_one : (h : Head) (n at : ℕ) (bytes : List ℕ) (ps qs : List Samples) (bad worse : Option Departure) → GoesOn h n at bytes ps bad → GoesOn h n at bytes qs worse → (ps ≡ qs) × (bad ≡ worse)
+unfolding GoesOn
+goes_on_one h n at bytes [] [] None None a b = (refl, refl)
+goes_on_one h n at bytes [] [] None (Some e) a b = let bad = b.0 in cc
+goes_on_one h n at bytes [] [] (Some d) None a b = let bad = a.0 in cc
+goes_on_one h n at bytes [] [] (Some d) (Some e) a b =
+    let fault : Err d.why ≡ Err e.why = sym a.0 ∙ b.0 in
+    let why : d.why ≡ e.why = cc in
+    (refl, ap Some (same_departure d.frame e.frame d.why e.why (a.1 ∙ sym b.1) why))
+goes_on_one h n at bytes [] (q ∷ qs) None worse a b = let next = b.1 in cc
+goes_on_one h n at bytes [] (q ∷ qs) (Some d) worse a b = let bad = a.0 in let next = b.1 in cc
+goes_on_one h n at bytes (p ∷ ps) [] bad None a b = let next = a.1 in cc
+goes_on_one h n at bytes (p ∷ ps) [] bad (Some e) a b = let next = a.1 in let end = b.0 in cc
+goes_on_one h n at bytes (p ∷ ps) (q ∷ qs) bad worse a b =
+    let same = same_frame p q a.0 b.0 (sym a.1 ∙ b.1) in
+    let later = subst (λ (size : ℕ). GoesOn h (n + 1) (at + size) bytes qs worse) (sym same.1) b.2 in
+    let rest = goes_on_one h (n + 1) (at + a.0) bytes ps qs bad worse a.2 later in
+    (same_list p q ps qs same.0 rest.0, rest.1)
+
+-- a text is one stream
+pub one_stream : (bytes : List ℕ) (h k : Head) (ps qs : List Samples) (bad worse : Option Departure) → IsY4m bytes h ps bad → IsY4m bytes k qs worse → (h ≡ k) × (ps ≡ qs) × (bad ≡ worse)
+unfolding IsY4m
+one_stream bytes h k ps qs bad worse a b =
+    let same = same_read h k a.0 b.0 (sym a.1 ∙ b.1) in
+    let there = subst (λ (head : Head). GoesOn head 0 b.0 bytes qs worse) (sym same.0) b.2 in
+    let here = subst (λ (size : ℕ). GoesOn h 0 size bytes qs worse) (sym same.1) there in
+    let rest = goes_on_one h 0 a.0 bytes ps qs bad worse a.2 here in
+    (same.0, rest.0, rest.1)
+
+-- or departs in its head
+pub no_stream : (bytes : List ℕ) (why : Y4mWhy) (h : Head) (ps : List Samples) (bad : Option Departure) → HasBadHead bytes why → IsY4m bytes h ps bad → ⊥
+unfolding IsY4m
+no_stream bytes why h ps bad head stream = let read = stream.1 in cc

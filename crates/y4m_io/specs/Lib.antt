@@ -4,6 +4,7 @@ pub mod Parts
 pub mod Y4m
 pub mod Crop
 pub mod Pad
+pub mod Generator
 pub mod Places
 pub mod Numbers
 pub mod Steps

@@ -1,6 +1,5 @@
 // The head of a YUV4MPEG2 stream (own).
 ghost use Rattle.std.specs.Prelude.{◌≡◌};
-ghost use Rattle.y4m_io.specs.Heads.{head_of_ident};
 
 use thr_ident::Ident;
 
@@ -24,6 +23,9 @@ pub struct Head {
 }
 
 impl Head {
+    ghost use Rattle.y4m_io.specs.Generator.{generated_head};
+    ghost use Rattle.y4m_io.specs.Heads.{head_of_ident};
+
     /// The head of the pictures of a Theora stream with this header.
     pub fn of(ident: &Ident) -> Head
         ensures { result ≡ head_of_ident ident.now }
@@ -36,6 +38,21 @@ impl Head {
             parn: ident.parn,
             pard: ident.pard,
             pf: ident.pf,
+        }
+    }
+
+    /// The head of the pictures that `make_frame` gives: 25 in a second, square samples, in 4:2:0.
+    pub fn generated(w: u32, h: u32) -> Head
+        ensures { result ≡ generated_head w h }
+    {
+        Head {
+            w,
+            h,
+            frn: 25,
+            frd: 1,
+            parn: 1,
+            pard: 1,
+            pf: 0,
         }
     }
 }

@@ -8,6 +8,7 @@ mod crop;
 mod fault;
 mod field;
 mod frame_line;
+mod generator;
 mod head;
 mod head_line;
 mod input;
@@ -21,8 +22,9 @@ mod reading;
 mod writing;
 
 pub use fault::{Y4mFault, Y4mWhy};
+pub use generator::make_frame;
 pub use head::Head;
-pub use laws::{pictures_by_size, pictures_of_streams, texts_by_pictures};
+pub use laws::{pictures_by_size, pictures_of_streams, streams_of_a_text, texts_by_pictures};
 pub use picture::Picture;
 pub use reading::Y4m;
 pub use writing::{write_frame, write_head};
