@@ -1,5 +1,5 @@
 -- Planes filled block by block and row by row. The calls of `pad` cite these.
-use Rattle.std.proofs.Common.{◌≡◌, ◌∙◌, ℕ, ◌+◌, ◌-◌, ◌*◌, ◌/◌, ◌%◌, ◌<◌, ◌≤◌, List, length, get_or, take, drop, length-take, length-drop, true, sym, ap, subst, refl, arith}
+use Rattle.std.proofs.Common.{◌≡◌, ◌∙◌, ℕ, ◌+◌, ◌-◌, ◌*◌, ◌/◌, ◌%◌, ◌<◌, ◌≤◌, List, length, get_or, take, drop, length-take, length-drop, sym, ap, subst, refl, arith}
 use Rattle.std.specs.Prelude.{min, map}
 use Rattle.std.specs.List.{range_with_len}
 use Rattle.std.proofs.lemmas.List.FromFn.{fill_by_all, get_or-map-range_with_len}
@@ -43,10 +43,10 @@ all_rows p q r n m samples of painted is =
     let w = p.width in
     let f : ℕ → ℕ = λ k. nearest_sample n m samples (k % w) (k / w) in
     let each : (x y : ℕ) → x < w → y < p.height → get_or q.samples (y * w + x) 0 ≡ f (y * w + x) = λ x y hx hy.
-      let zx : 0 + x ≡ x = omega arith in
-      let zy : 0 + y ≡ y = omega arith in
-      let at : (0 + y) * q.width + (0 + x) ≡ y * w + x = rw (zx, zy, painted.same_width) refl in
-      sym (ap (λ i. get_or q.samples i 0) at) ∙ painted.inside x y hx hy ∙ sym (ap (λ i. nearest_sample n m samples i ((y * w + x) / w)) (mod-mul-add y w x hx) ∙ ap (λ i. nearest_sample n m samples x i) (div-mul-add y w x hx)) in
+    let zx : 0 + x ≡ x = omega arith in
+    let zy : 0 + y ≡ y = omega arith in
+    let at : (0 + y) * q.width + (0 + x) ≡ y * w + x = rw (zx, zy, painted.same_width) refl in
+    sym (ap (λ i. get_or q.samples i 0) at) ∙ painted.inside x y hx hy ∙ sym (ap (λ i. nearest_sample n m samples i ((y * w + x) / w)) (mod-mul-add y w x hx) ∙ ap (λ i. nearest_sample n m samples x i) (div-mul-add y w x hx)) in
     let list : q.samples ≡ map f (range_with_len 0 (w * p.height)) = fill_by_all f q.samples (w * p.height) 0 (painted.same_length ∙ of.whole) (λ k below. each_place (λ k. get_or q.samples k 0 ≡ f k) w p.height k each below) in
     is ∙ rw (painted.same_width, painted.same_height, list) refl
 

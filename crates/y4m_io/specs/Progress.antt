@@ -81,3 +81,9 @@ Turns (Ok true) old new = new ≡ record old { at = new.at; frames = old.frames 
 Turns (Ok false) old new = (new ≡ old) × (0 < old.frames)
 Turns (Err (Bad frame why)) old new = (new ≡ record old { bad = Some why }) × (frame ≡ old.frames)
 Turns (Err _) old new = new ≡ old
+
+-- of the same input, with the same head
+pub record StaysIn (old new : Progress) : Type 0 where
+  pub input : new.input ≡ old.input
+  pub size : new.size ≡ old.size
+  pub head : new.head ≡ old.head

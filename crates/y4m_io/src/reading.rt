@@ -47,7 +47,7 @@ fn zeros(alloc: Global, count: usize) -> Result<Vec<u8>, AllocError>
 }
 
 impl Y4m {
-    ghost use Rattle.y4m_io.specs.Progress.{progress_of, IsOfInput, IsStart, StopsIn, Finds, FindsLine, IfFound, IsNumbered, Gives, Turns};
+    ghost use Rattle.y4m_io.specs.Progress.{progress_of, IsOfInput, IsStart, StopsIn, Finds, FindsLine, IfFound, IsNumbered, Gives, StaysIn, Turns};
 
     /// Reads the head. `Bad` is its first departure; its frame is 0.
     pub fn start<D: Desk>(alloc: Global, desk: &mut D, id: u32) -> Result<Y4m, Y4mFault>
@@ -170,6 +170,8 @@ impl Y4m {
         requires into { IsPictureOf self.old.head.w self.old.head.h self.old.head.pf (samples_of into.old) }
         ensures gives { Told (D.sees desk.old) (progress_of self.old).input (Gives result (progress_of self.old) (progress_of self.new) (samples_of into.new)) }
         ensures turns { Turns result (progress_of self.old) (progress_of self.new) }
+        ensures stays { StaysIn (progress_of self.old) (progress_of self.new) }
+        ensures of { IsOfInput (D.sees desk.new) (progress_of self.new) }
         ensures into { IsPictureOf self.old.head.w self.old.head.h self.old.head.pf (samples_of into.new) }
         ensures memory { ¬ IsErrOf result Y4mFault.NoMem }
         ensures kept { with_reads (D.sees desk.old) (D.sees desk.new) }

@@ -1,12 +1,20 @@
+ghost use Rattle.std.specs.Prelude.{◌≡◌, ◌<◌, IfOk};
+ghost use Rattle.vid_plane.specs.Picture.{IsLike};
+ghost use Rattle.vid_plane.specs.Frames.{IsFrameOf};
+ghost use Rattle.y4m_io.specs.Crop.{shape_of};
+
 use crate::*;
+use std::alloc::Global;
 use std::process::Abort;
 use std::test::Fail;
 use thr_ident::{Ident, read_ident};
-use vid_base::Shape;
+use vid_base::NoMem;
 use vid_plane::{Frame, Plane};
 
-/// A header for frames of so many macro blocks: picture sizes and offsets, and the format.
-fn ident(rt: &impl Abort, w: u8, h: u8, x: u8, y: u8, pf: u8) -> Ident {
+mod refusals;
+
+/// An identification header of a coded frame of 16 by 16 samples: the picture's width and height, its place, and the format.
+fn ident(rt: &impl Abort, [w, h, x, y, pf]: [u8; 5]) -> Ident {
     let mut bytes = [
         0x80, 0x74, 0x68, 0x65, 0x6F, 0x72, 0x61, 3, 2, 1, 0, 1, 0, 1, 0, 0, 16, 0, 0, 16, 0, 0, 0,
         0, 0, 25, 0, 0, 0, 1, 0, 0, 1, 0, 0, 1, 0, 0, 0, 0, 0x78, 0xC0,
@@ -19,11 +27,217 @@ fn ident(rt: &impl Abort, w: u8, h: u8, x: u8, y: u8, pf: u8) -> Ident {
     read_ident(&bytes).expect(rt, "no header")
 }
 
-/// Each sample is 16 times its row, counted from the lowest, and its column.
-fn fill(plane: &mut Plane) {
+// Each sample is 16 times its row, counted from the lowest, and its column.
+fn draw(plane: &mut Plane)
+    ensures { IsLike plane.old plane.new }
+{
     for y in 0..plane.height() {
         for x in 0..plane.width() {
             plane.set(x, y, (16 * (y & 15) + (x & 15)) as u8);
         }
     }
+}
+
+fn drawn_frame(alloc: Global, ident: &Ident) -> Result<Frame, NoMem>
+    ensures { IfOk result (λ frame. IsFrameOf (shape_of ident.now) frame) }
+{
+    let mut frame = Frame::new(alloc, ident.shape())?;
+    draw(&mut frame.y);
+    draw(&mut frame.cb);
+    draw(&mut frame.cr);
+    Ok(frame)
+}
+
+fn cropped(rt: &impl Abort, alloc: Global, header: [u8; 5]) -> Result<Picture, NoMem> {
+    let ident = ident(rt, header);
+    let frame = drawn_frame(alloc, &ident)?;
+    let mut picture = Picture::new(alloc, ident.picw, ident.pich, ident.pf)?;
+    picture.crop(&frame, &ident);
+    Ok(picture)
+}
+
+/// Width, height, column and row of the picture in the frame, and the format; then its luma and its chroma, from the top.
+const CROPS: [([u8; 5], &[u8], &[u8]); 6] = [
+    (
+        [3, 3, 1, 1, 0],
+        &[49, 50, 51, 33, 34, 35, 17, 18, 19],
+        &[16, 17, 0, 1],
+    ),
+    (
+        [3, 3, 1, 1, 2],
+        &[49, 50, 51, 33, 34, 35, 17, 18, 19],
+        &[48, 49, 32, 33, 16, 17],
+    ),
+    (
+        [3, 3, 1, 1, 3],
+        &[49, 50, 51, 33, 34, 35, 17, 18, 19],
+        &[49, 50, 51, 33, 34, 35, 17, 18, 19],
+    ),
+    ([3, 2, 3, 5, 0], &[99, 100, 101, 83, 84, 85], &[33, 34]),
+    ([2, 1, 14, 15, 0], &[254, 255], &[119]),
+    ([1, 1, 0, 0, 3], &[0], &[0]),
+];
+
+#[test]
+fn a_picture_is_cut_out_of_a_frame_from_the_top_row_down(rt: HostRuntime) -> Result<(), Fail> {
+    for (header, luma, chroma) in CROPS {
+        let picture = cropped(&rt, rt.alloc(), header)?;
+        assert!(rt; picture.y.as_slice() == luma, "luma of {header:?}");
+        assert!(rt; picture.cb.as_slice() == chroma, "cb of {header:?}");
+        assert!(rt; picture.cr.as_slice() == chroma, "cr of {header:?}");
+    }
+    Ok(())
+}
+
+#[test]
+fn memory_is_found_for_the_greatest_pictures(rt: HostRuntime) -> Result<(), Fail> {
+    for (w, h, pf) in [
+        (1, 1, 0),
+        (1, 2_097_152, 0),
+        (2_097_152, 1, 2),
+        (8192, 4096, 3),
+    ] {
+        let picture = Picture::new(rt.alloc(), w, h, pf)?;
+        let mut out = Vec::new(rt.alloc());
+        write_frame(&mut out, &picture)?;
+        assert_eq!(rt;
+            out.len() as u64,
+            6 + picture.y.len() as u64 + 2 * picture.cb.len() as u64,
+            "{w} by {h}"
+        );
+    }
+    Ok(())
+}
+
+/// Heads, as they are written.
+const HEADS: [(Head, &[u8]); 3] = [
+    (
+        Head {
+            w: 640,
+            h: 360,
+            frn: 30,
+            frd: 1,
+            parn: 1,
+            pard: 1,
+            pf: 0,
+        },
+        b"YUV4MPEG2 W640 H360 F30:1 Ip A1:1 C420jpeg\n",
+    ),
+    (
+        Head {
+            w: 1,
+            h: 1,
+            frn: 30_000,
+            frd: 1001,
+            parn: 0,
+            pard: 0,
+            pf: 2,
+        },
+        b"YUV4MPEG2 W1 H1 F30000:1001 Ip A0:0 C422\n",
+    ),
+    (
+        Head {
+            w: u32::MAX,
+            h: u32::MAX,
+            frn: u32::MAX,
+            frd: u32::MAX,
+            parn: u32::MAX,
+            pard: u32::MAX,
+            pf: 3,
+        },
+        b"YUV4MPEG2 W4294967295 H4294967295 F4294967295:4294967295 Ip A4294967295:4294967295 C444\n",
+    ),
+];
+
+#[test]
+fn a_head_has_its_numbers_and_the_name_of_its_format(rt: HostRuntime) -> Result<(), Fail> {
+    for (head, text) in HEADS {
+        assert!(rt; head.pf <= 3 && head.pf != 1);
+        let mut out = Vec::new(rt.alloc());
+        write_head(&mut out, &head)?;
+        assert!(rt; out.as_slice() == text, "{head:?}");
+    }
+    Ok(())
+}
+
+#[test]
+fn a_made_film_of_16_by_16_has_431_bytes_for_a_frame(rt: HostRuntime) -> Result<(), Fail> {
+    let mut picture = Picture::new(rt.alloc(), 16, 16, 0)?;
+    make_frame(&mut picture, 0, 0);
+    let mut out = Vec::new(rt.alloc());
+    write_head(&mut out, &Head::generated(16, 16))?;
+    write_frame(&mut out, &picture)?;
+    assert_eq!(rt; out.len(), 431);
+    assert!(rt; &out[..47] == b"YUV4MPEG2 W16 H16 F25:1 Ip A1:1 C420jpeg\nFRAME\n".as_slice());
+    let luma = [
+        32u8, 33, 34, 35, 36, 37, 38, 39, 40, 41, 42, 43, 44, 45, 46, 47,
+    ];
+    assert!(rt; &out[47..63] == luma.as_slice());
+    assert_eq!(rt; out[302], 62);
+    assert!(rt; &out[303..311] == [96u8, 97, 98, 99, 100, 101, 102, 103].as_slice());
+    assert!(rt; &out[367..375] == [160u8; 8].as_slice());
+    Ok(())
+}
+
+#[test]
+fn films_move_and_begin_where_they_are_told_to(rt: HostRuntime) -> Result<(), Fail> {
+    let mut picture = Picture::new(rt.alloc(), 2, 2, 0)?;
+    // Start, frame, and the picture: four samples of luma, one of each chroma.
+    for (start, n, luma, cb, cr) in [
+        (0, 1, [35, 36, 36, 37], 97, 159),
+        (63, 0, [95, 95, 96, 96], 159, 160),
+        (64, 0, [95, 94, 96, 95], 159, 160),
+        (128, 0, [33, 34, 34, 35], 96, 159),
+        (16_384 + 127, 0, [32, 32, 33, 33], 96, 160),
+        (u32::MAX, u32::MAX, [35, 34, 34, 33], 97, 159),
+    ] {
+        make_frame(&mut picture, start, n);
+        assert!(rt;
+            picture.y.as_slice() == luma.as_slice(),
+            "luma of {start} {n}"
+        );
+        assert!(rt;
+            picture.cb.as_slice() == [cb].as_slice(),
+            "cb of {start} {n}"
+        );
+        assert!(rt;
+            picture.cr.as_slice() == [cr].as_slice(),
+            "cr of {start} {n}"
+        );
+    }
+    Ok(())
+}
+
+/// A place of a frame of 16 by 16 samples, and what a picture of 3 by 2 has there: luma 1 2 3 over 4 5 6, Cb 7 8, Cr 9 10.
+const PADDED: [(u32, u32, u8); 8] = [
+    (0, 0, 4),
+    (2, 0, 6),
+    (3, 0, 6),
+    (15, 0, 6),
+    (0, 1, 1),
+    (0, 15, 1),
+    (2, 2, 3),
+    (15, 15, 3),
+];
+
+#[test]
+fn a_picture_is_padded_to_the_right_and_upwards(rt: HostRuntime) -> Result<(), Fail> {
+    let mut picture = Picture::new(rt.alloc(), 3, 2, 0)?;
+    picture.y.copy_from_slice(&[1, 2, 3, 4, 5, 6]);
+    picture.cb.copy_from_slice(&[7, 8]);
+    picture.cr.copy_from_slice(&[9, 10]);
+    let mut frame = drawn_frame(rt.alloc(), &ident(&rt, [3, 2, 0, 0, 0]))?;
+    picture.pad(&mut frame);
+    assert!(rt; frame.y.sealed() && frame.cb.sealed() && frame.cr.sealed());
+    for (x, y, sample) in PADDED {
+        assert!(rt; x < frame.y.width() && y < frame.y.height());
+        assert_eq!(rt; frame.y.sample(x, y), sample, "{x} {y}");
+    }
+    for (x, y, cb, cr) in [(0, 0, 7, 9), (0, 7, 7, 9), (1, 0, 8, 10), (7, 7, 8, 10)] {
+        assert!(rt; x < frame.cb.width() && y < frame.cb.height());
+        assert!(rt; x < frame.cr.width() && y < frame.cr.height());
+        assert_eq!(rt; frame.cb.sample(x, y), cb, "{x} {y}");
+        assert_eq!(rt; frame.cr.sample(x, y), cr, "{x} {y}");
+    }
+    Ok(())
 }

@@ -1,4 +1,4 @@
-use Rattle.std.proofs.Common.{◌/◌, ◌%◌, ℕ, length, arith}
+use Rattle.std.proofs.Common.{◌/◌, ℕ, length, arith}
 use Rattle.std.proofs.lemmas.List.FromFn.{fill_by_all}
 use Rattle.y4m_io.specs.Generator.{cr_at}
 use Rattle.y4m_io.proofs.generator.Frame.fill_cr.Goals as goal

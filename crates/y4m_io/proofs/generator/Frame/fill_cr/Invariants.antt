@@ -1,4 +1,4 @@
-use Rattle.std.proofs.Common.{◌≡◌, ◌<◌, ◌/◌, ◌%◌, ℕ, get_or, length}
+use Rattle.std.proofs.Common.{◌≡◌, ◌<◌, ◌/◌, ℕ, get_or, length}
 use Rattle.y4m_io.specs.Generator.{cr_at}
 use Rattle.y4m_io.proofs.generator.Frame.fill_cr.Given as goal
 

@@ -1,4 +1,4 @@
-use Rattle.std.proofs.Common.{◌≡◌, ◌∙◌, refl}
+use Rattle.std.proofs.Common.{refl}
 use Rattle.y4m_io.specs.Pad.{pad_of}
 use Rattle.y4m_io.proofs.picture.Picture.pad.Goals as goal
 
