@@ -57,10 +57,10 @@ abbrev pub IfFound : Progress → Option ℕ → Type 0
 IfFound p (Some size) = (p.at + size ≤ p.size) × (p.frames < 2 ^ 24)
 IfFound p None = 0 < p.frames
 
--- a departure is said of the frame that comes next
-abbrev pub IsNumbered : {A : Type 0} → Progress → Result A Y4mFault → Type 0
-IsNumbered p (Err (Bad frame why)) = frame ≡ p.frames
-IsNumbered p _ = ⊤
+-- a departure is said of the frame behind so many
+abbrev pub IsNumbered : {A : Type 0} → ℕ → Result A Y4mFault → Type 0
+IsNumbered n (Err (Bad frame why)) = frame ≡ n
+IsNumbered n _ = ⊤
 
 -- the same of the line of a frame
 abbrev pub FindsLine : Result ℕ Y4mFault → Progress → List ℕ → Type 0
