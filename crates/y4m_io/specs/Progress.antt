@@ -77,7 +77,7 @@ Gives (Err _) old new picture bytes = ⊤
 
 -- what an answer changes: after a picture there is one more, after a departure it is kept, and else all is as before
 abbrev pub Turns : Result Bool Y4mFault → Progress → Progress → Type 0
-Turns (Ok true) old new = new ≡ record old { at = new.at; frames = old.frames + 1 }
+Turns (Ok true) old new = (new ≡ record old { at = new.at; frames = old.frames + 1 }) × (old.frames < 2 ^ 24)
 Turns (Ok false) old new = (new ≡ old) × (0 < old.frames)
 Turns (Err (Bad frame why)) old new = (new ≡ record old { bad = Some why }) × (frame ≡ old.frames)
 Turns (Err _) old new = new ≡ old
