@@ -57,10 +57,10 @@ abbrev pub IfFound : Progress → Option ℕ → Type 0
 IfFound p (Some size) = (p.at + size ≤ p.size) × (p.frames < 2 ^ 24)
 IfFound p None = 0 < p.frames
 
--- a departure is said of the frame that comes next
-abbrev pub IsNumbered : {A : Type 0} → Progress → Result A Y4mFault → Type 0
-IsNumbered p (Err (Bad frame why)) = frame ≡ p.frames
-IsNumbered p _ = ⊤
+-- a departure is said of the frame behind so many
+abbrev pub IsNumbered : {A : Type 0} → ℕ → Result A Y4mFault → Type 0
+IsNumbered n (Err (Bad frame why)) = frame ≡ n
+IsNumbered n _ = ⊤
 
 -- the same of the line of a frame
 abbrev pub FindsLine : Result ℕ Y4mFault → Progress → List ℕ → Type 0
@@ -77,7 +77,7 @@ Gives (Err _) old new picture bytes = ⊤
 
 -- what an answer changes: after a picture there is one more, after a departure it is kept, and else all is as before
 abbrev pub Turns : Result Bool Y4mFault → Progress → Progress → Type 0
-Turns (Ok true) old new = new ≡ record old { at = new.at; frames = old.frames + 1 }
+Turns (Ok true) old new = (new ≡ record old { at = new.at; frames = old.frames + 1 }) × (old.frames < 2 ^ 24)
 Turns (Ok false) old new = (new ≡ old) × (0 < old.frames)
 Turns (Err (Bad frame why)) old new = (new ≡ record old { bad = Some why }) × (frame ≡ old.frames)
 Turns (Err _) old new = new ≡ old

@@ -55,6 +55,7 @@ impl Y4m {
         ensures started { IfOk result (λ y. Told (D.sees desk.old) id (λ bytes. IsStart bytes (progress_of y))) }
         ensures input { IfOk result (λ y. ((progress_of y).input ≡ id) × IsOfInput (D.sees desk.old) (progress_of y)) }
         ensures fault { OnErr result (Told (D.sees desk.old) id (StopsIn result)) }
+        ensures numbered { IsNumbered 0 result }
         ensures kept { with_reads (D.sees desk.old) (D.sees desk.new) }
         ensures count { (D.sees desk.old).read_faults ≤ (D.sees desk.new).read_faults }
         ensures cause { IsErrOf result Y4mFault.ReadFault → Rose (D.sees desk.old).read_faults (D.sees desk.new).read_faults }
@@ -92,7 +93,7 @@ impl Y4m {
         requires of { IsOfInput (D.sees desk.old) (progress_of self.old) }
         ensures line { Told (D.sees desk.old) (progress_of self.old).input (FindsLine result (progress_of self.old)) }
         ensures within { IfOk result (λ line. line ≤ (progress_of self.old).size - (progress_of self.old).at) }
-        ensures numbered { IsNumbered (progress_of self.old) result }
+        ensures numbered { IsNumbered (progress_of self.old).frames result }
         ensures same { progress_of self.new ≡ progress_of self.old }
         ensures memory { ¬ IsErrOf result Y4mFault.NoMem }
         ensures kept { with_reads (D.sees desk.old) (D.sees desk.new) }
@@ -121,7 +122,7 @@ impl Y4m {
         requires into { IsPictureOf self.old.head.w self.old.head.h self.old.head.pf (samples_of into.old) }
         ensures found { Told (D.sees desk.old) (progress_of self.old).input (Finds result (progress_of self.old) (samples_of into.new)) }
         ensures within { IfOk result (IfFound (progress_of self.old)) }
-        ensures numbered { IsNumbered (progress_of self.old) result }
+        ensures numbered { IsNumbered (progress_of self.old).frames result }
         ensures same { progress_of self.new ≡ progress_of self.old }
         ensures memory { ¬ IsErrOf result Y4mFault.NoMem }
         ensures into { IsLike (samples_of into.old) (samples_of into.new) }

@@ -38,6 +38,7 @@ fn draw(plane: &mut Plane)
     }
 }
 
+#[tactic(auto, using(crate::proofs::CropLemmas::frame_of_ident))]
 fn drawn_frame(alloc: Global, ident: &Ident) -> Result<Frame, NoMem>
     ensures { IfOk result (λ frame. IsFrameOf (shape_of ident.now) frame) }
 {
@@ -48,6 +49,7 @@ fn drawn_frame(alloc: Global, ident: &Ident) -> Result<Frame, NoMem>
     Ok(frame)
 }
 
+#[tactic(auto, using(crate::proofs::CropLemmas::size_of_ident))]
 fn cropped(rt: &impl Abort, alloc: Global, header: [u8; 5]) -> Result<Picture, NoMem> {
     let ident = ident(rt, header);
     let frame = drawn_frame(alloc, &ident)?;
@@ -160,6 +162,29 @@ fn a_head_has_its_numbers_and_the_name_of_its_format(rt: HostRuntime) -> Result<
     Ok(())
 }
 
+// Whether a part of a text stands at a place.
+fn stands_at(text: &[u8], at: usize, part: &[u8]) -> bool {
+    match text.get(at..) {
+        Some(rest) => rest.starts_with(part),
+        None => false,
+    }
+}
+
+/// Where these bytes stand in the film of one frame of 16 by 16: the head, the first row of luma and the last sample of it, the
+/// first row of Cb, and the first of Cr.
+const MADE: [(usize, &[u8]); 5] = [
+    (0, b"YUV4MPEG2 W16 H16 F25:1 Ip A1:1 C420jpeg\nFRAME\n"),
+    (
+        47,
+        &[
+            32, 33, 34, 35, 36, 37, 38, 39, 40, 41, 42, 43, 44, 45, 46, 47,
+        ],
+    ),
+    (302, &[62]),
+    (303, &[96, 97, 98, 99, 100, 101, 102, 103]),
+    (367, &[160, 160, 160, 160, 160, 160, 160, 160]),
+];
+
 #[test]
 fn a_made_film_of_16_by_16_has_431_bytes_for_a_frame(rt: HostRuntime) -> Result<(), Fail> {
     let mut picture = Picture::new(rt.alloc(), 16, 16, 0)?;
@@ -168,42 +193,30 @@ fn a_made_film_of_16_by_16_has_431_bytes_for_a_frame(rt: HostRuntime) -> Result<
     write_head(&mut out, &Head::generated(16, 16))?;
     write_frame(&mut out, &picture)?;
     assert_eq!(rt; out.len(), 431);
-    assert!(rt; &out[..47] == b"YUV4MPEG2 W16 H16 F25:1 Ip A1:1 C420jpeg\nFRAME\n".as_slice());
-    let luma = [
-        32u8, 33, 34, 35, 36, 37, 38, 39, 40, 41, 42, 43, 44, 45, 46, 47,
-    ];
-    assert!(rt; &out[47..63] == luma.as_slice());
-    assert_eq!(rt; out[302], 62);
-    assert!(rt; &out[303..311] == [96u8, 97, 98, 99, 100, 101, 102, 103].as_slice());
-    assert!(rt; &out[367..375] == [160u8; 8].as_slice());
+    for (at, part) in MADE {
+        assert!(rt; stands_at(&out, at, part), "byte {at}");
+    }
     Ok(())
 }
 
+/// Start and frame, and the picture of 2 by 2: four samples of luma, one of Cb and one of Cr.
+const FILMS: [(u32, u32, &[u8], &[u8], &[u8]); 6] = [
+    (0, 1, &[35, 36, 36, 37], &[97], &[159]),
+    (63, 0, &[95, 95, 96, 96], &[159], &[160]),
+    (64, 0, &[95, 94, 96, 95], &[159], &[160]),
+    (128, 0, &[33, 34, 34, 35], &[96], &[159]),
+    (16_511, 0, &[32, 32, 33, 33], &[96], &[160]),
+    (u32::MAX, u32::MAX, &[35, 34, 34, 33], &[97], &[159]),
+];
+
 #[test]
 fn films_move_and_begin_where_they_are_told_to(rt: HostRuntime) -> Result<(), Fail> {
-    let mut picture = Picture::new(rt.alloc(), 2, 2, 0)?;
-    // Start, frame, and the picture: four samples of luma, one of each chroma.
-    for (start, n, luma, cb, cr) in [
-        (0, 1, [35, 36, 36, 37], 97, 159),
-        (63, 0, [95, 95, 96, 96], 159, 160),
-        (64, 0, [95, 94, 96, 95], 159, 160),
-        (128, 0, [33, 34, 34, 35], 96, 159),
-        (16_384 + 127, 0, [32, 32, 33, 33], 96, 160),
-        (u32::MAX, u32::MAX, [35, 34, 34, 33], 97, 159),
-    ] {
+    for (start, n, luma, cb, cr) in FILMS {
+        let mut picture = Picture::new(rt.alloc(), 2, 2, 0)?;
         make_frame(&mut picture, start, n);
-        assert!(rt;
-            picture.y.as_slice() == luma.as_slice(),
-            "luma of {start} {n}"
-        );
-        assert!(rt;
-            picture.cb.as_slice() == [cb].as_slice(),
-            "cb of {start} {n}"
-        );
-        assert!(rt;
-            picture.cr.as_slice() == [cr].as_slice(),
-            "cr of {start} {n}"
-        );
+        assert!(rt; picture.y.as_slice() == luma, "luma of {start} {n}");
+        assert!(rt; picture.cb.as_slice() == cb, "cb of {start} {n}");
+        assert!(rt; picture.cr.as_slice() == cr, "cr of {start} {n}");
     }
     Ok(())
 }
