@@ -1,11 +1,11 @@
 -- Checks: counting key frames, and the cause of each refusal. The command `check` cites these.
-use Rattle.std.proofs.Common.{◌≡◌, ℕ, ◌+◌, ◌-◌, ◌<◌, ◌≤◌, List, [], suc, ◌∷◌, ◌++◌, length, take, get_or, map, Bool, true, false, Some, Err, refl, ap, sym, inl, ◌∙◌, arith, if◌then◌else◌}
+use Rattle.std.proofs.Common.{◌≡◌, ℕ, ◌+◌, ◌<◌, ◌≤◌, List, [], suc, ◌∷◌, ◌++◌, length, take, get_or, map, Bool, true, false, Some, Err, refl, ap, sym, inl, ◌∙◌, arith, if◌then◌else◌}
 use Rattle.std.specs.List.{filter}
 use mir.Val.{bool_byte}
 use Rattle.std.proofs.lemmas.List.{take_more, take_all, length-append, length-drop, length-map}
 use Rattle.std.proofs.lemmas.List.Elements.{filter-append}
 use Rattle.vid_desk.specs.Meaning.{File}
-use Rattle.ogg_page.specs.Granule.{is_key}
+use Rattle.ogg_link.specs.Track.{is_key}
 use Rattle.src_index.specs.declared.fault.SourceFault.{SourceFault}
 use Rattle.src_index.specs.declared.fault.SourceFault.TheVariants.{Bad, Page, Link, TooLong, ReadFault, Changed, NoMem}
 use Rattle.src_index.specs.declared.fault.Fault.TheVariants.{InPacket, InPage, InLink}

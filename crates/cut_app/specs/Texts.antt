@@ -2,7 +2,7 @@
 use Rattle.std.specs.Prelude.{◌≡◌, ℕ, Bool, true, false, List, [], ◌++◌, length, filter, Option, Some, Ok, ◌⊎◌}
 use Rattle.std.specs.Option.{option_map}
 use Rattle.vid_desk.specs.Meaning.{File, Meaning, ToldFiles, Rose}
-use Rattle.ogg_page.specs.Granule.{is_key}
+use Rattle.ogg_link.specs.Track.{is_key}
 use Rattle.thr_ident.specs.declared.ident.Ident.{Ident}
 use Rattle.thr_ident.specs.Ident.{ident_of, header_of}
 use Rattle.src_index.specs.Track.{frames_of, packet_at}

@@ -2,7 +2,7 @@
 -- `one_status`.
 use Rattle.std.proofs.Common.{◌≡◌, ℕ, ◌∷◌, List, [], Bool, true, false, inl, inr, ◌⊎◌, refl, ap, sym, ◌∙◌}
 use Rattle.vid_desk.specs.Meaning.{File}
-use Rattle.ogg_page.specs.Granule.{is_key}
+use Rattle.ogg_link.specs.Track.{is_key}
 use Rattle.cut_desk.specs.Inputs.{IsAbsent, IsMissing, IsThere}
 use Rattle.cut_desk.specs.Statuses.{IsOutside}
 use Rattle.cut_desk.proofs.InputLemmas.{one_first, there_or_absent}

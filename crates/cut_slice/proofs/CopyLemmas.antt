@@ -9,8 +9,8 @@ use Rattle.std.proofs.Math.Dec.{leb-zero}
 use Rattle.std.proofs.Math.Nat.{div-add-mod, mod-eq_of_lt}
 use Rattle.ogg_page.specs.Page.{Page, HasShape}
 use Rattle.ogg_page.specs.Written.{page_of, written_page, written_pages}
-use Rattle.ogg_page.specs.Granule.{is_key, granule_of}
-use Rattle.ogg_page.specs.OutputPages.{Stream, Segment, Held, first_page, next_page, grown, page_with, pages_list, cut_at_255, packet_segments, frame_segments, frame_least, paged_list, paged, reaches}
+use Rattle.ogg_link.specs.Track.{is_key, granule_of}
+use Rattle.ogg_mux.specs.OutputPages.{Stream, Segment, Held, first_page, next_page, grown, page_with, pages_list, cut_at_255, packet_segments, frame_segments, paged_list, paged, reaches}
 use Rattle.cut_slice.specs.Copy.{lacing_values, lacing_of, frame_pages, header_pages, IsShort}
 
 -- a page of whole packets, of which the last ends with this granule position
@@ -110,25 +110,25 @@ own_flags flags granule serial number lacing body = let none : 0 + flags ≡ fla
 
 -- the pages of frames behind a page that is closed
 frames_paged : (stream : Stream) (held : Held) (n f k : ℕ) (packets : List (List ℕ)) → held.closed ≡ true → held.goes_on ≡ false → 0 < length held.lacing → held.number + 1 ≡ n → n + length packets < 2 ^ 32 → All IsShort packets
-    → pages_list stream.serial 4 held (frame_segments stream.base stream.shift f k packets) ≡ page_with stream.serial (if length packets == 0 then 4 else 0) held ∷ frame_pages stream n f k packets
+    → pages_list stream.serial 4 held (frame_segments 0 stream.base stream.shift f k packets) ≡ page_with stream.serial (if length packets == 0 then 4 else 0) held ∷ frame_pages stream n f k packets
 unfolding frame_segments frame_pages pages_list next_page
 frames_paged stream held n f k [] shut whole some number room short = let full : length held.lacing == 0 ≡ false = ne_eqb _ _ (λ e. omega (arith, e)) in rw full refl
 frames_paged stream held n f k (packet ∷ packets) shut whole some number room short =
     let key : ℕ = if is_key packet then f else k in
     let granule : ℕ = granule_of stream.base stream.shift key f in
-    let rest : List Segment = frame_segments stream.base stream.shift (f + 1) key packets in
+    let rest : List Segment = frame_segments 0 stream.base stream.shift (f + 1) key packets in
     let first : length packet / 255 < 255 = short 0 [] (omega arith) in
     let others : All IsShort packets = λ i d h. short (suc i) d (omega arith) in
-    let page : Held = whole_page 0 n granule frame_least (lacing_of (length packet)) packet in
+    let page : Held = whole_page 0 n granule (Some 0) (lacing_of (length packet)) packet in
     let size : length packet ≡ 255 * (length packet / 255) + length packet % 255 = sym (div-add-mod (length packet) 255) in
     let flags : (if held.goes_on then 1 else 0) ≡ 0 = rw whole refl in
     let next_number : (held.number + 1) % 2 ^ 32 ≡ n = ap (λ m. m % 2 ^ 32) number ∙ mod-eq_of_lt (omega arith) in
     let closes : page.closed ≡ true = or_true (length (lacing_of (length packet)) == 255) (reaches (length packet) (Some 0)) (leb-zero (length packet)) in
-    next_step stream.serial 4 held (length packet / 255) packet granule frame_least rest shut
+    next_step stream.serial 4 held (length packet / 255) packet granule (Some 0) rest shut
     ∙ ap (λ pages. page_with stream.serial 0 held ∷ pages)
-    (packet_whole (length packet / 255) stream.serial 4 (next_page held) packet (length packet % 255) granule frame_least rest size refl (omega arith)
-    ∙ ap (λ fl. pages_list stream.serial 4 (whole_page fl ((held.number + 1) % 2 ^ 32) granule frame_least (lacing_of (length packet)) packet) rest) flags
-    ∙ ap (λ m. pages_list stream.serial 4 (whole_page 0 m granule frame_least (lacing_of (length packet)) packet) rest) next_number
+    (packet_whole (length packet / 255) stream.serial 4 (next_page held) packet (length packet % 255) granule (Some 0) rest size refl (omega arith)
+    ∙ ap (λ fl. pages_list stream.serial 4 (whole_page fl ((held.number + 1) % 2 ^ 32) granule (Some 0) (lacing_of (length packet)) packet) rest) flags
+    ∙ ap (λ m. pages_list stream.serial 4 (whole_page 0 m granule (Some 0) (lacing_of (length packet)) packet) rest) next_number
     ∙ frames_paged stream page (n + 1) (f + 1) key packets closes refl (omega (arith, length-lacing_values (length packet / 255) (length packet % 255))) refl (omega arith) others
     ∙ ap (λ p. p ∷ frame_pages stream (n + 1) (f + 1) key packets) (own_flags (if length packets == 0 then 4 else 0) granule stream.serial n (lacing_of (length packet)) packet))
     ∙ ap (λ p. p ∷ frame_pages stream n f k (packet ∷ packets)) (more_follow stream.serial held packet packets)
@@ -136,10 +136,10 @@ frames_paged stream held n f k (packet ∷ packets) shut whole some number room 
 -- the pages of a stream
 pub stream_paged : (stream : Stream) (packet : List ℕ) (packets : List (List ℕ)) → IsShort stream.ident
     → length (lacing_of (length stream.comment)) + length (lacing_of (length stream.setup)) ≤ 255 → All IsShort (packet ∷ packets) → 2 + length (packet ∷ packets) < 2 ^ 32
-    → paged_list stream (packet ∷ packets) ≡ header_pages stream ++ frame_pages stream 2 0 0 (packet ∷ packets)
+    → paged_list 0 stream (packet ∷ packets) ≡ header_pages stream ++ frame_pages stream 2 0 0 (packet ∷ packets)
 unfolding paged_list next_page
 stream_paged stream packet packets ident headers short room =
-    let frames : List Segment = frame_segments stream.base stream.shift 0 0 (packet ∷ packets) in
+    let frames : List Segment = frame_segments 0 stream.base stream.shift 0 0 (packet ∷ packets) in
     let comment_size : length stream.comment ≡ 255 * (length stream.comment / 255) + length stream.comment % 255 = sym (div-add-mod (length stream.comment) 255) in
     let setup_size : length stream.setup ≡ 255 * (length stream.setup / 255) + length stream.setup % 255 = sym (div-add-mod (length stream.setup) 255) in
     let ident_size : length stream.ident ≡ 255 * (length stream.ident / 255) + length stream.ident % 255 = sym (div-add-mod (length stream.ident) 255) in
@@ -267,7 +267,7 @@ frames_came view stream frames n f k came pages h e =
 
 -- the bytes of a cut are those of its pages
 pub cut_written : (stream : Stream) (packets : List (List ℕ)) → 0 < length packets → IsShort stream.ident → length stream.comment / 255 + length stream.setup / 255 + 2 ≤ 255 → All IsShort packets → 2 + length packets < 2 ^ 32
-    → paged stream packets ≡ written_pages (header_pages stream) ++ written_pages (frame_pages stream 2 0 0 packets)
+    → paged 0 stream packets ≡ written_pages (header_pages stream) ++ written_pages (frame_pages stream 2 0 0 packets)
 unfolding paged
 cut_written stream [] some ident others short few = absurd (omega arith)
 cut_written stream (packet ∷ packets) some ident others short few =

@@ -8,7 +8,7 @@ use Rattle.ogg_page.proofs.PageLemmas.{page_is}
 use Rattle.ogg_page.proofs.PagesLemmas.{ArePages-unique}
 use Rattle.cut_slice.specs.SliceList.{Slice, slice_of, behind}
 use Rattle.cut_slice.specs.Plain.{Packets, IsPlain, NotPlain, plain_of}
-use Rattle.ogg_page.specs.Granule.{is_key}
+use Rattle.ogg_link.specs.Track.{is_key}
 use Rattle.cut_slice.specs.Words.{Cut, clashes}
 use Rattle.cut_desk.specs.Inputs.{contents, IsMissing}
 use Rattle.cut_desk.specs.Outputs.{LeavesOutputs, Looks}

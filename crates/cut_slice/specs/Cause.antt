@@ -2,8 +2,8 @@
 use Rattle.std.specs.Prelude.{◌≡◌, ⊤, ℕ, ◌-◌, ◌^◌, ◌<◌, ◌≤◌, true, false, List, [], ◌∷◌, length, take, drop, Some, None, ◌⊎◌, slice_get}
 use Rattle.std.specs.Option.{option_map_or}
 use Rattle.vid_desk.specs.Meaning.{File, Meaning}
-use Rattle.ogg_page.specs.Granule.{is_key}
-use Rattle.ogg_page.specs.OutputPages.{paged}
+use Rattle.ogg_link.specs.Track.{is_key}
+use Rattle.ogg_mux.specs.OutputPages.{paged}
 use Rattle.cut_slice.specs.Words.{Cut, clashes}
 use Rattle.cut_desk.specs.Inputs.{contents, IsMissing}
 use Rattle.cut_desk.specs.Outputs.{LeavesOutputs, Makes}
@@ -28,9 +28,9 @@ pub record IsInRange (list source : List ℕ) (slice : Slice) (packets : Packets
 abbrev pub in_point : Slice → Packets → List ℕ
 in_point slice packets = option_map_or (λ packet. packet) (slice_get packets.frames slice.first) []
 
--- the bytes of the cut: the pages of the source's headers and of the frames of the slice
+-- the bytes of the cut: the pages of the source's headers and of the frames of the slice, where each frame's end closes its page
 abbrev pub cut_bytes : Slice → Packets → List ℕ
-cut_bytes slice packets = paged (stream_of packets) (take (slice.past - slice.first) (drop slice.first packets.frames))
+cut_bytes slice packets = paged 0 (stream_of packets) (take (slice.past - slice.first) (drop slice.first packets.frames))
 
 -- both inputs are there, the list is of the form, the source is plain, and the slice lies in it
 pub record IsReady (cut : Cut) (files : List File) (slice : Slice) (packets : Packets) : Type 0 where

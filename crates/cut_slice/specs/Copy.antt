@@ -2,8 +2,8 @@
 -- n is the number of a page, f of a frame, k of its last key frame.
 use Rattle.std.specs.Prelude.{ℕ, zero, suc, ◌+◌, ◌/◌, ◌%◌, ◌<◌, List, [], ◌∷◌, ◌++◌, length, sum_by, ◌==◌, if◌then◌else◌}
 use Rattle.ogg_page.specs.Page.{Page}
-use Rattle.ogg_page.specs.Granule.{is_key, granule_of}
-use Rattle.ogg_page.specs.OutputPages.{Stream}
+use Rattle.ogg_link.specs.Track.{is_key, granule_of}
+use Rattle.ogg_mux.specs.OutputPages.{Stream}
 
 -- n lacing values of 255, and one below it
 unfoldable pub lacing_values : ℕ → ℕ → List ℕ

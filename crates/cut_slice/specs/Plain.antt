@@ -5,8 +5,8 @@ use Rattle.std.specs.Str.{bytes_eq}
 use Rattle.vid_base.specs.Bits.{bits_of, number}
 use Rattle.ogg_page.specs.Page.{Page, ArePages}
 use Rattle.ogg_page.specs.Packets.{segments, packets_from}
-use Rattle.ogg_page.specs.Granule.{is_key}
-use Rattle.ogg_page.specs.OutputPages.{Stream}
+use Rattle.ogg_link.specs.Track.{is_key, magic}
+use Rattle.ogg_mux.specs.OutputPages.{Stream}
 
 -- the header packets and the frame packets of a stream
 pub record Packets : Type 0 where
@@ -44,7 +44,7 @@ all_packets (page ∷ pages) = page_packets page ++ all_packets pages
 -- the header packets, where page 0 holds one of at least 42 bytes that begins as an identification header, and page 1 holds two
 abbrev pub with_headers : List (List ℕ) → List (List ℕ) → List (List ℕ) → Option Packets
 with_headers (ident ∷ []) (comment ∷ setup ∷ []) frames =
-    if nat_le 42 (length ident) && bytes_eq (take 7 ident) (128 ∷ 116 ∷ 104 ∷ 101 ∷ 111 ∷ 114 ∷ 97 ∷ [])
+    if nat_le 42 (length ident) && bytes_eq (take 7 ident) magic
     then Some (record { ident = ident; comment = comment; setup = setup; frames = frames }) else None
 with_headers _ _ _ = None
 

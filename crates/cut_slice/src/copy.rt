@@ -2,9 +2,9 @@
 ghost use Rattle.std.specs.Prelude.{◌≡◌, ◌<◌, ◌≤◌, ◌+◌, ◌-◌, ◌*◌, ◌/◌, ◌^◌, ◌++◌, ◌⊎◌, ℕ, List, length, sum, map, take, drop, vec_len, OnOk, OnErr, IfOk, IsErrOf, All, if◌then◌else◌};
 ghost use Rattle.vid_desk.specs.Meaning.{HasCause, Meaning, Rose};
 ghost use Rattle.ogg_page.specs.Page.{HasShape};
-ghost use Rattle.ogg_page.specs.Granule.{granule_of, is_key};
 ghost use Rattle.ogg_page.specs.Written.{page_of, written_pages};
-ghost use Rattle.ogg_page.specs.OutputPages.{paged};
+ghost use Rattle.ogg_link.specs.Track.{granule_of, is_key};
+ghost use Rattle.ogg_mux.specs.OutputPages.{paged};
 ghost use Rattle.cut_slice.specs.Copy.{lacing_of, IsShort, frame_pages, header_pages};
 ghost use Rattle.cut_desk.specs.Making.{IsMaking, Adds};
 ghost use Rattle.cut_desk.specs.Outputs.{Makes, MakesAtMost, Makings};

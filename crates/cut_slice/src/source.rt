@@ -5,7 +5,7 @@ ghost use Rattle.cut_slice.specs.Plain.{ends_whole, has_flags, in_place, in_orde
 ghost use Rattle.cut_slice.specs.Sources.{packets_view, with_frames, IsCopyable, HaveShortHeaders};
 ghost use Rattle.cut_slice.specs.Copy.{IsShort, lacing_count};
 ghost use Rattle.std.specs.Option.{option_map};
-ghost use Rattle.ogg_page.specs.Granule.{is_key};
+ghost use Rattle.ogg_link.specs.Track.{is_key};
 
 use ogg_page::{PageRef, read_page};
 use std::alloc::{AllocError, AllocFailed, Global};

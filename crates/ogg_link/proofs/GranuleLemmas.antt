@@ -3,7 +3,7 @@ use Rattle.std.proofs.Common.{◌≡◌, ◌⊎◌, ℕ, ◌+◌, ◌-◌, ◌*�
 use Rattle.std.proofs.Math.Pow.{pow_mono}
 use Rattle.std.proofs.Math.Nat.{mul-le-mul_left, mod-eq_of_lt}
 use Rattle.std.proofs.lemmas.Nat.{div-mul-add, mod-mul-add}
-use Rattle.ogg_page.specs.Granule.{granule_of}
+use Rattle.ogg_link.specs.Track.{granule_of}
 use Rattle.ogg_link.specs.declared.state.State.{State}
 use Rattle.ogg_link.specs.Granules.{IsLater, last_frame, against_base, against_key, settled}
 

@@ -4,7 +4,7 @@ use Rattle.std.proofs.lemmas.Bool.{cases_lt}
 use Rattle.std.proofs.lemmas.List.Sums.{sum_by-cons}
 use Rattle.std.specs.List.{last_or}
 use Rattle.ogg_page.specs.Packets.{Piece, segments, packets_from, left_from}
-use Rattle.ogg_page.specs.Granule.{is_key}
+use Rattle.ogg_link.specs.Track.{is_key}
 use Rattle.ogg_link.specs.declared.state.Progress.{Progress}
 use Rattle.ogg_link.specs.Progress.{one_more, key_after, after_piece, after_pieces, last_key_among, GoOn, Holds, unfinished_by, unfinished_behind}
 

@@ -5,7 +5,8 @@ use Rattle.ogg_page.specs.Packets.{segments}
 use Rattle.ogg_link.specs.declared.state.State.{State}
 use Rattle.ogg_link.specs.Flags.{is_continued, is_first}
 use Rattle.ogg_link.specs.Progress.{after_pieces, is_alone, is_crowded}
-use Rattle.ogg_link.specs.Walk.{with_page, begins_track}
+use Rattle.ogg_link.specs.Track.{begins_track}
+use Rattle.ogg_link.specs.Walk.{with_page}
 
 -- a later page of the track fits what is known: its serial and sequence number, its flags and its lacing values
 pub record Follows (state : State) (page : Page) : Type 0 where

@@ -1,6 +1,6 @@
 -- The granule position of a page, against that of the last frame that ends on it (Theora I, A.2.3).
 use Rattle.std.specs.Prelude.{◌≡◌, ◌⊎◌, ◌<◌, ℕ, ◌-◌, ◌/◌, ◌%◌, ◌^◌, not, ◌||◌, Option, Some, None, Result, Ok, Err, ◌==◌, nat_lt, if◌then◌else◌}
-use Rattle.ogg_page.specs.Granule.{granule_of}
+use Rattle.ogg_link.specs.Track.{granule_of}
 use Rattle.ogg_link.specs.declared.state.State.{State}
 use Rattle.ogg_link.specs.declared.fault.LinkFault.{LinkFault}
 use Rattle.ogg_link.specs.declared.fault.LinkFault.TheVariants.{BadGranule}

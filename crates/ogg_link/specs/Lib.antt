@@ -1,3 +1,4 @@
+pub mod Track
 pub mod Flags
 pub mod Faults
 pub mod Parts

@@ -2,12 +2,8 @@
 use Rattle.std.specs.Prelude.{◌≡◌, ℕ, min, ◌+◌, ◌-◌, ◌/◌, ◌%◌, ◌^◌, ◌<◌, Bool, true, false, not, ◌&&◌, List, [], ◌∷◌, ◌++◌, length, replicate, Option, Some, None, ◌==◌, nat_lt, if◌then◌else◌}
 use Rattle.std.specs.List.{last_or}
 use Rattle.ogg_page.specs.Packets.{Piece}
-use Rattle.ogg_page.specs.Granule.{is_key}
 use Rattle.ogg_link.specs.declared.state.Progress.{Progress}
-
--- how many packets precede the frames
-abbrev pub headers : ℕ
-headers = 3
+use Rattle.ogg_link.specs.Track.{headers, is_key}
 
 -- one packet more; the count stays at the greatest number of 64 bits
 abbrev pub one_more : ℕ → ℕ

@@ -1,7 +1,6 @@
 -- From page to page of a link: what is known before a page, and what the page adds or its first fault
 -- (RFC 3533, 4 to 6; Theora I, A.2).
-use Rattle.std.specs.Prelude.{ℕ, ◌+◌, ◌%◌, ◌^◌, Bool, true, false, not, ◌||◌, ◌&&◌, List, [], ◌∷◌, length, take, Option, Some, None, Result, Ok, Err, ◌==◌, nat_lt, if◌then◌else◌, is_none, is_some}
-use Rattle.std.specs.Str.{bytes_eq}
+use Rattle.std.specs.Prelude.{ℕ, ◌+◌, ◌%◌, ◌^◌, Bool, true, false, not, ◌||◌, ◌&&◌, length, Option, Some, None, Result, Ok, Err, ◌==◌, nat_lt, if◌then◌else◌, is_none, is_some}
 use Rattle.ogg_page.specs.Page.{Page}
 use Rattle.ogg_page.specs.Packets.{segments}
 use Rattle.ogg_link.specs.declared.state.State.{State}
@@ -9,6 +8,7 @@ use Rattle.ogg_link.specs.declared.state.Progress.{Progress}
 use Rattle.ogg_link.specs.declared.fault.LinkFault.{LinkFault}
 use Rattle.ogg_link.specs.declared.fault.LinkFault.TheVariants.{MissingPage, BadContinued, NoTrack, HeadersNotAlone, UnfinishedPacket, DataAfterEnd, Chained}
 use Rattle.ogg_link.specs.Flags.{is_continued, is_first, is_last}
+use Rattle.ogg_link.specs.Track.{begins_track}
 use Rattle.ogg_link.specs.Progress.{after_pieces, is_alone, is_crowded}
 
 -- before the first page
@@ -24,14 +24,6 @@ start = record {
   granule = 0;
   base = None;
 }
-
--- byte 0x80 and `theora`, with which an identification header begins (Theora I, 6.1)
-abbrev pub magic : List ℕ
-magic = 128 ∷ 116 ∷ 104 ∷ 101 ∷ 111 ∷ 114 ∷ 97 ∷ []
-
--- these bytes begin so
-abbrev pub begins_track : List ℕ → Bool
-begins_track body = not (nat_lt (length body) 7) && bytes_eq (take 7 body) magic
 
 -- the page is of the track with this serial number; where there is none, it begins the track
 abbrev pub is_of : Option ℕ → Page → Bool

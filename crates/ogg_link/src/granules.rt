@@ -1,6 +1,6 @@
 // Granule positions of frames (Theora I, A.2.3).
 ghost use Rattle.std.specs.Prelude.{◌≡◌, ◌≤◌, ◌<◌, ◌+◌, ◌-◌, ◌/◌, ◌%◌, ◌^◌, ◌↔◌, ℕ, IsNone, IfSome, IfErr};
-ghost use Rattle.ogg_page.specs.Granule.{granule_of};
+ghost use Rattle.ogg_link.specs.Track.{granule_of};
 ghost use Rattle.ogg_link.specs.Granules.{settled as settled_of, IsLater};
 
 use crate::progress::HEADERS;

@@ -3,7 +3,7 @@
 ghost use Rattle.std.specs.Prelude.{◌≡◌, ◌⊎◌, ◌≤◌, ◌<◌, ◌+◌, ◌-◌, ◌^◌, ◌++◌, ◌∷◌, [], ℕ, List, true, false, Some, None, Ok, length, min, sum};
 ghost use Rattle.ogg_page.specs.Page.{Page};
 ghost use Rattle.ogg_page.specs.Packets.{Piece, segments, packets_from, left_from};
-ghost use Rattle.ogg_page.specs.Granule.{granule_of};
+ghost use Rattle.ogg_link.specs.Track.{granule_of};
 ghost use Rattle.ogg_link.specs.declared.state.State.{State};
 ghost use Rattle.ogg_link.specs.declared.state.Progress.{Progress};
 ghost use Rattle.ogg_link.specs.Faultless.{Follows, Begins, stepped};

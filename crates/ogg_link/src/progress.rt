@@ -2,7 +2,7 @@
 ghost use Rattle.std.specs.Prelude.{◌≡◌, sum, length};
 ghost use Rattle.ogg_page.specs.Packets.{Piece, segments};
 ghost use Rattle.ogg_page.specs.Page.{HasShape};
-ghost use Rattle.ogg_page.specs.Granule.{is_key};
+ghost use Rattle.ogg_link.specs.Track.{is_key};
 ghost use Rattle.ogg_link.specs.Progress.{after_piece, after_pieces, is_alone as is_alone_in, is_crowded as is_crowded_in};
 
 use crate::state::Progress;

@@ -7,5 +7,3 @@ pub mod FrontLemmas
 pub mod WrittenLemmas
 pub mod PagesLemmas
 pub mod PacketLemmas
-pub mod OutputLemmas
-pub mod StreamLemmas

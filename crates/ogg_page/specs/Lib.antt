@@ -3,5 +3,3 @@ pub mod Faults
 pub mod Page
 pub mod Written
 pub mod Packets
-pub mod Granule
-pub mod OutputPages

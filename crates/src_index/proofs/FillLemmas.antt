@@ -1,7 +1,7 @@
 -- The packet of a frame stands at its place. `Source::packet` cites these.
 use Rattle.std.proofs.Common.{◌≡◌, ℕ, ◌+◌, ◌<◌, ◌≤◌, Bool, List, [], length, drop, get_or, Some, Ok, ap, sym, ◌∙◌, arith}
 use Rattle.std.proofs.lemmas.List.{get_or-drop}
-use Rattle.ogg_page.specs.Granule.{is_key}
+use Rattle.ogg_link.specs.Track.{is_key}
 use Rattle.src_index.specs.Index.{PageMark, Place, Frame, Index, frame_count}
 use Rattle.src_index.specs.Track.{frame_at, frames_of}
 use Rattle.src_index.specs.Heads.{most_bytes}

@@ -10,7 +10,7 @@ use Rattle.thr_ident.specs.Comment.{comment_of}
 use Rattle.vid_base.specs.Rules.{first_fault, unless}
 use Rattle.thr_setup.specs.Setup.{setup_of}
 use Rattle.src_index.specs.declared.heads.Known.{Known}
-use Rattle.src_index.specs.Track.{headers}
+use Rattle.ogg_link.specs.Track.{headers}
 use Rattle.src_index.specs.Heads.{packet_step, packets_over, page_over, unfinished_over, next_fault, header_step, frame_step, head_rules, key_at, is_too_large, most_packets, most_bytes}
 
 -- what was read before a reading that went well

@@ -1,7 +1,7 @@
 -- What the index of a file says of its packets. Commands over a source, and writers of its packets, cite these.
 use Rattle.std.proofs.Common.{◌≡◌, ℕ, ◌+◌, ◌≤◌, List, [], ◌∷◌, length, length-drop, map, All, refl, ap, ◌∙◌, arith}
 use Rattle.std.proofs.lemmas.List.Elements.{All-nil, All-cons}
-use Rattle.ogg_page.specs.Granule.{is_key}
+use Rattle.ogg_link.specs.Track.{is_key}
 use Rattle.src_index.specs.Index.{PageMark, Frame, Index, frame_count, keys_of, quantisers_of}
 use Rattle.src_index.specs.Track.{frames_of}
 use Rattle.src_index.specs.Heads.{most_bytes}

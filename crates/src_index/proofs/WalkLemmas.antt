@@ -3,7 +3,7 @@ use Rattle.std.proofs.Common.{◌≡◌, ℕ, min, ◌+◌, ◌-◌, ◌≤◌, 
 use Rattle.std.proofs.lemmas.Bool.{cases_lt}
 use Rattle.ogg_page.specs.Page.{Page}
 use Rattle.ogg_page.specs.Packets.{segments, packets_from}
-use Rattle.ogg_page.specs.Granule.{granule_of}
+use Rattle.ogg_link.specs.Track.{granule_of}
 use Rattle.ogg_link.specs.declared.state.State.{State}
 use Rattle.ogg_link.specs.declared.fault.LinkFault.{LinkFault}
 use Rattle.ogg_link.specs.declared.fault.LinkFault.TheVariants.{MissingPage, BadContinued, BadGranule, NoTrack, HeadersNotAlone, UnfinishedPacket, DataAfterEnd, Chained}

@@ -2,9 +2,9 @@
 use Rattle.std.specs.Prelude.{◌≡◌, ℕ, ◌+◌, ◌≤◌, true, false, List, [], ◌∷◌, ◌++◌, length, take, drop, sum, All, Option, Some, None, Ok, if◌then◌else◌}
 use Rattle.ogg_page.specs.Page.{Page, page_at_front, number_at}
 use Rattle.ogg_page.specs.Packets.{Piece, segments}
-use Rattle.ogg_page.specs.Granule.{is_key}
+use Rattle.ogg_link.specs.Track.{headers, is_key}
 use Rattle.src_index.specs.Index.{PageMark, Place, Frame, Index}
-use Rattle.src_index.specs.Track.{frames_of, packet_at, headers}
+use Rattle.src_index.specs.Track.{frames_of, packet_at}
 use Rattle.src_index.specs.Heads.{most_bytes}
 use Rattle.src_index.specs.Quantiser.{quantiser_behind}
 use Rattle.src_index.specs.Seekable.{IsSeekable}

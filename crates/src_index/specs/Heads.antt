@@ -4,7 +4,7 @@ use Rattle.std.specs.Prelude.{ℕ, ◌+◌, ◌-◌, ◌^◌, Bool, true, ◌||�
 use Rattle.vid_base.specs.declared.fault.PacketFault.{PacketFault}
 use Rattle.vid_base.specs.declared.fault.PacketFault.TheVariants.{NotData, FirstNotKey, KeyTooFar, TooLarge}
 use Rattle.vid_base.specs.Reading.{◌>>=◌, and_then}
-use Rattle.ogg_page.specs.Granule.{is_key}
+use Rattle.ogg_link.specs.Track.{headers, is_key}
 use Rattle.vid_base.specs.Rules.{Rule, first_fault, unless}
 use Rattle.thr_ident.specs.Ident.{ident_of}
 use Rattle.thr_ident.specs.Comment.{comment_of}
@@ -12,7 +12,7 @@ use Rattle.thr_setup.specs.Setup.{setup_of}
 use Rattle.src_index.specs.declared.heads.Known.{Known}
 use Rattle.src_index.specs.declared.fault.Fault.{Fault}
 use Rattle.src_index.specs.declared.fault.Fault.TheVariants.{InPacket}
-use Rattle.src_index.specs.Track.{headers, first_link}
+use Rattle.src_index.specs.Track.{first_link}
 
 -- the most bytes of a packet
 abbrev pub most_bytes : ℕ

@@ -1,7 +1,7 @@
 -- How what is kept stands to the bytes of a file, page by page (private). `todo` are the segments of the page that are left.
 use Rattle.std.specs.Prelude.{◌≡◌, ℕ, ◌≤◌, List, [], ◌++◌, length, take, drop, All}
 use Rattle.ogg_page.specs.Packets.{Piece}
-use Rattle.src_index.specs.Track.{headers}
+use Rattle.ogg_link.specs.Track.{headers}
 use Rattle.src_index.specs.Quantiser.{last_quantiser}
 use Rattle.src_index.specs.Gather.{IsMarkOf, AreFramesOf, first_packet, segments_along, segments_from}
 use Rattle.src_index.specs.Kept.{Kept}

@@ -1,7 +1,7 @@
 -- What is kept of the packets so far, and of a packet or a page more (private).
 use Rattle.std.specs.Prelude.{ℕ, ◌+◌, Bool, List, [], ◌∷◌, ◌++◌, length, ◌==◌, nat_lt, if◌then◌else◌}
 use Rattle.ogg_page.specs.Packets.{Piece, segments}
-use Rattle.ogg_page.specs.Granule.{is_key}
+use Rattle.ogg_link.specs.Track.{is_key}
 use Rattle.src_index.specs.Index.{PageMark, Place, Frame}
 use Rattle.src_index.specs.Quantiser.{quantiser_behind}
 

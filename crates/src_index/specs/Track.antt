@@ -1,9 +1,6 @@
 -- The packets of a track in order: three headers and then the frames (Theora I, 6 and A.2).
 use Rattle.std.specs.Prelude.{ℕ, ◌+◌, List, [], drop, get_or}
-
--- how many packets precede the frames
-abbrev pub headers : ℕ
-headers = 3
+use Rattle.ogg_link.specs.Track.{headers}
 
 -- the packet with this number
 abbrev pub packet_at : List (List ℕ) → ℕ → List ℕ

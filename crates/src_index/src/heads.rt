@@ -1,9 +1,8 @@
 // What the packets of a track say one after the other (Theora I, 6 and 7.1).
 ghost use Rattle.std.specs.Prelude.{◌≡◌, ◌<◌, ◌≤◌, ◌^◌, IfOk, IfErr};
-ghost use Rattle.ogg_page.specs.Granule.{is_key as is_key_packet};
+ghost use Rattle.ogg_link.specs.Track.{headers, is_key as is_key_packet};
 ghost use Rattle.src_index.specs.Heads.{is_data as is_data_packet, frame_step, most_packets};
 ghost use Rattle.src_index.specs.Quantiser.{quantiser_behind as quantiser_of};
-ghost use Rattle.src_index.specs.Track.{headers};
 
 use vid_base::PacketFault;
 

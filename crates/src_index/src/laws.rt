@@ -1,7 +1,7 @@
 //! Laws of the definitions that contracts here cite. These functions do nothing: their clauses name lemmas of `proofs/`,
 //! which the proofs of crates above cite.
 ghost use Rattle.std.specs.Prelude.{◌≡◌, ◌≤◌, ◌<◌, ◌+◌, ◌^◌, ℕ, List, All, Ok, length, map};
-ghost use Rattle.ogg_page.specs.Granule.{is_key};
+ghost use Rattle.ogg_link.specs.Track.{is_key};
 ghost use Rattle.src_index.specs.Index.{Index, frame_count, keys_of, quantisers_of};
 ghost use Rattle.src_index.specs.Track.{frames_of};
 ghost use Rattle.src_index.specs.Quantiser.{quantisers};

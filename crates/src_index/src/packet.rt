@@ -2,7 +2,7 @@
 ghost use Rattle.std.specs.Prelude.{◌≡◌, ◌≢◌, ℕ, List, [], ◌+◌, ◌*◌, ◌++◌, ◌<◌, ◌≤◌, ◌^◌, true, false, Some, Ok, IfOk, OnOk, OnErr, IsErrOf, length, All, drop, sum, vec_len, if◌then◌else◌, ◌⊎◌, IfErr, Err};
 ghost use Rattle.vid_desk.specs.Meaning.{Rose, Told, ToldFiles, with_reads};
 ghost use Rattle.ogg_page.specs.Packets.{Piece, segments};
-ghost use Rattle.ogg_page.specs.Granule.{is_key as is_key_packet};
+ghost use Rattle.ogg_link.specs.Track.{is_key as is_key_packet};
 ghost use Rattle.src_index.specs.Track.{frame_at};
 ghost use Rattle.src_index.specs.Index.{frame_count, key_at};
 ghost use Rattle.src_index.specs.Judge.{Judged};

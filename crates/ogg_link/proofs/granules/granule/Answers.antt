@@ -1,5 +1,5 @@
 use Rattle.std.proofs.Common.{◌≡◌}
-use Rattle.ogg_page.specs.Granule.{granule_of}
+use Rattle.ogg_link.specs.Track.{granule_of}
 use Rattle.ogg_link.proofs.GranuleLemmas.{told_back, positions_rise}
 use Rattle.ogg_link.proofs.granules.granule.Goals as goal
 

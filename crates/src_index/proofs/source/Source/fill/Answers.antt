@@ -1,7 +1,7 @@
 use Rattle.std.proofs.Common.{rules, ◌≡◌, ◌∙◌, ◌<◌, [], length, get_or, map, true, false, ap, sym, subst, refl, arith}
 use Rattle.std.proofs.lemmas.List.{get_or-map, length-map}
 use Rattle.vid_desk.specs.Meaning.{bytes_at}
-use Rattle.ogg_page.specs.Granule.{is_key}
+use Rattle.ogg_link.specs.Track.{is_key}
 use Rattle.src_index.specs.Index.{Frame, Index}
 use Rattle.src_index.specs.Track.{frames_of}
 use Rattle.src_index.specs.Gather.{StandsAt}

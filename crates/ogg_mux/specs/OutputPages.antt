@@ -2,7 +2,7 @@
 use Rattle.std.specs.Prelude.{ℕ, zero, suc, ◌+◌, ◌-◌, ◌/◌, ◌%◌, ◌^◌, Bool, false, ◌||◌, List, [], ◌∷◌, ◌++◌, length, take, drop, Option, Some, None, is_none, unwrap_or, nat_le, ◌==◌, if◌then◌else◌}
 use Rattle.ogg_page.specs.Page.{Page}
 use Rattle.ogg_page.specs.Written.{written_pages}
-use Rattle.ogg_page.specs.Granule.{is_key, granule_of}
+use Rattle.ogg_link.specs.Track.{is_key, granule_of}
 
 -- what one lacing value counts: at most 255 bytes of a packet; the granule position where the packet ends with them;
 -- and the least body size, if any, with which the segment closes its page
@@ -94,26 +94,23 @@ pub record Stream : Type 0 where
   pub shift : ℕ
   pub base : ℕ
 
--- the body size from which on the end of a frame packet closes its page
-abbrev pub frame_least : Option ℕ
-frame_least = Some 0
-
 -- the header packets: the identification header stands alone, and the page on which the setup header ends is closed
 abbrev pub header_segments : Stream → List Segment
 header_segments stream = packet_segments stream.ident 0 (Some 0) ++ packet_segments stream.comment 0 None ++ packet_segments stream.setup 0 (Some 0)
 
--- frame packets from frame f on, where k is the last key frame before it
-unfoldable pub frame_segments : ℕ → ℕ → ℕ → ℕ → List (List ℕ) → List Segment
-frame_segments base shift f k [] = []
-frame_segments base shift f k (packet ∷ packets) =
+-- frame packets from frame f on, where k is the last key frame before it; the end of one closes its page from the body size
+-- `least` on
+unfoldable pub frame_segments : ℕ → ℕ → ℕ → ℕ → ℕ → List (List ℕ) → List Segment
+frame_segments least base shift f k [] = []
+frame_segments least base shift f k (packet ∷ packets) =
     let key : ℕ = if is_key packet then f else k in
-    packet_segments packet (granule_of base shift key f) frame_least ++ frame_segments base shift (f + 1) key packets
+    packet_segments packet (granule_of base shift key f) (Some least) ++ frame_segments least base shift (f + 1) key packets
 
 -- the pages of a stream with these frame packets; where there are any, the last page has flag 4
-unfoldable pub paged_list : Stream → List (List ℕ) → List Page
-paged_list stream [] = pages_list stream.serial 0 first_page (header_segments stream)
-paged_list stream (packet ∷ packets) = pages_list stream.serial 4 first_page (header_segments stream ++ frame_segments stream.base stream.shift 0 0 (packet ∷ packets))
+unfoldable pub paged_list : ℕ → Stream → List (List ℕ) → List Page
+paged_list least stream [] = pages_list stream.serial 0 first_page (header_segments stream)
+paged_list least stream (packet ∷ packets) = pages_list stream.serial 4 first_page (header_segments stream ++ frame_segments least stream.base stream.shift 0 0 (packet ∷ packets))
 
 -- their bytes
-unfoldable pub paged : Stream → List (List ℕ) → List ℕ
-paged stream packets = written_pages (paged_list stream packets)
+unfoldable pub paged : ℕ → Stream → List (List ℕ) → List ℕ
+paged least stream packets = written_pages (paged_list least stream packets)

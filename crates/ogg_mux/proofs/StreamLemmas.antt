@@ -3,10 +3,10 @@ use Rattle.std.proofs.Common.{◌≡◌, ℕ, zero, suc, ◌+◌, ◌*◌, ◌/�
 use Rattle.std.proofs.Math.Nat.{mul-le-mul_left}
 use Rattle.ogg_page.specs.Page.{ArePages}
 use Rattle.ogg_page.specs.Packets.{packets_from, segments, packets_of}
-use Rattle.ogg_page.specs.Granule.{is_key, granule_of}
-use Rattle.ogg_page.specs.OutputPages.{Segment, Stream, first_page, cut_at_255, packet_segments, frame_least, header_segments, frame_segments, paged_list, paged}
+use Rattle.ogg_link.specs.Track.{is_key, granule_of}
+use Rattle.ogg_mux.specs.OutputPages.{Segment, Stream, first_page, cut_at_255, packet_segments, header_segments, frame_segments, paged_list, paged}
 use Rattle.ogg_page.proofs.WrittenLemmas.{AllWritable, ArePages-written_pages}
-use Rattle.ogg_page.proofs.OutputLemmas.{AllFit, AllFit-cut, AllWritable-pages_list, IsSound-first_page, piece_of, segments_of-pages_list}
+use Rattle.ogg_mux.proofs.OutputLemmas.{AllFit, AllFit-cut, AllWritable-pages_list, IsSound-first_page, piece_of, segments_of-pages_list}
 
 -- a packet's segments, joined
 cut-joined : (n : ℕ) (front bytes : List ℕ) (g : ℕ) (l : Option ℕ) (more : List Segment) → 255 * n ≤ length bytes → length bytes < 255 * n + 255
@@ -23,12 +23,12 @@ pub packets_from-packet_segments : (bytes : List ℕ) (g : ℕ) (l : Option ℕ)
 packets_from-packet_segments bytes g l more = cut-joined (length bytes / 255) [] bytes g l more (omega arith) (omega arith)
 
 -- the segments of frame packets are those packets
-pub packets_from-frame_segments : (base shift f k : ℕ) (ps : List (List ℕ)) → packets_from [] (map piece_of (frame_segments base shift f k ps)) ≡ ps
+pub packets_from-frame_segments : (least base shift f k : ℕ) (ps : List (List ℕ)) → packets_from [] (map piece_of (frame_segments least base shift f k ps)) ≡ ps
 unfolding packets_from frame_segments
-packets_from-frame_segments base shift f k [] = refl
-packets_from-frame_segments base shift f k (p ∷ ps) =
+packets_from-frame_segments least base shift f k [] = refl
+packets_from-frame_segments least base shift f k (p ∷ ps) =
     let key : ℕ = if is_key p then f else k in
-    packets_from-packet_segments p (granule_of base shift key f) frame_least (frame_segments base shift (f + 1) key ps) ∙ ap (λ l. p ∷ l) (packets_from-frame_segments base shift (f + 1) key ps)
+    packets_from-packet_segments p (granule_of base shift key f) (Some least) (frame_segments least base shift (f + 1) key ps) ∙ ap (λ l. p ∷ l) (packets_from-frame_segments least base shift (f + 1) key ps)
 
 -- the three headers one by one
 pub header_segments-append : (s : Stream) (more : List Segment) → header_segments s ++ more ≡ packet_segments s.ident 0 (Some 0) ++ (packet_segments s.comment 0 None ++ (packet_segments s.setup 0 (Some 0) ++ more))
@@ -51,13 +51,13 @@ key-le : (p : List ℕ) (f k : ℕ) → k ≤ f → (if is_key p then f else k) 
 key-le p f k h = elim (is_key p) as (λ b. (if b then f else k) ≤ f) [ true ↦ omega arith | false ↦ h ]
 
 -- the granule positions of frames fit
-pub AllFit-frame_segments : (base shift f k : ℕ) (ps : List (List ℕ)) → base ≤ 1 → shift ≤ 31 → k ≤ f → f + length ps ≤ 2 ^ 24 → AllFit (frame_segments base shift f k ps)
+pub AllFit-frame_segments : (least base shift f k : ℕ) (ps : List (List ℕ)) → base ≤ 1 → shift ≤ 31 → k ≤ f → f + length ps ≤ 2 ^ 24 → AllFit (frame_segments least base shift f k ps)
 unfolding frame_segments AllFit
-AllFit-frame_segments base shift f k [] hb hs hk hf = tt
-AllFit-frame_segments base shift f k (p ∷ ps) hb hs hk hf =
+AllFit-frame_segments least base shift f k [] hb hs hk hf = tt
+AllFit-frame_segments least base shift f k (p ∷ ps) hb hs hk hf =
     let key : ℕ = if is_key p then f else k in
     let small : key ≤ f = key-le p f k hk in
-    AllFit-cut (length p / 255) p (granule_of base shift key f) frame_least _ (granule_of-lt base shift key f hb hs small (omega arith)) (AllFit-frame_segments base shift (f + 1) key ps hb hs (omega arith) (omega arith))
+    AllFit-cut (length p / 255) p (granule_of base shift key f) (Some least) _ (granule_of-lt base shift key f hb hs small (omega arith)) (AllFit-frame_segments least base shift (f + 1) key ps hb hs (omega arith) (omega arith))
 
 AllFit-header_segments : (s : Stream) (more : List Segment) → AllFit more → AllFit (header_segments s ++ more)
 AllFit-header_segments s more m =
@@ -75,24 +75,24 @@ pub record HasRoom (s : Stream) (ps : List (List ℕ)) : Type 0 where
   pub base : s.base ≤ 1
   pub count : length ps ≤ 2 ^ 24
 
-all_fit : (s : Stream) (p : List ℕ) (ps : List (List ℕ)) → HasRoom s (p ∷ ps) → AllFit (header_segments s ++ frame_segments s.base s.shift 0 0 (p ∷ ps))
-all_fit s p ps room = AllFit-header_segments s _ (AllFit-frame_segments s.base s.shift 0 0 (p ∷ ps) room.base room.shift (omega arith) (omega (arith, room.count)))
+all_fit : (least : ℕ) (s : Stream) (p : List ℕ) (ps : List (List ℕ)) → HasRoom s (p ∷ ps) → AllFit (header_segments s ++ frame_segments least s.base s.shift 0 0 (p ∷ ps))
+all_fit least s p ps room = AllFit-header_segments s _ (AllFit-frame_segments least s.base s.shift 0 0 (p ∷ ps) room.base room.shift (omega arith) (omega (arith, room.count)))
 
-AllWritable-paged_list : (s : Stream) (ps : List (List ℕ)) → HasRoom s ps → AllWritable (paged_list s ps)
+AllWritable-paged_list : (least : ℕ) (s : Stream) (ps : List (List ℕ)) → HasRoom s ps → AllWritable (paged_list least s ps)
 unfolding paged_list
-AllWritable-paged_list s [] room = AllWritable-pages_list s.serial 0 first_page (header_segments s) room.serial IsSound-first_page (AllFit-headers_alone s)
-AllWritable-paged_list s (p ∷ ps) room = AllWritable-pages_list s.serial 4 first_page _ room.serial IsSound-first_page (all_fit s p ps room)
+AllWritable-paged_list least s [] room = AllWritable-pages_list s.serial 0 first_page (header_segments s) room.serial IsSound-first_page (AllFit-headers_alone s)
+AllWritable-paged_list least s (p ∷ ps) room = AllWritable-pages_list s.serial 4 first_page _ room.serial IsSound-first_page (all_fit least s p ps room)
 
 -- the bytes of a stream are its pages
-pub ArePages-paged : (s : Stream) (ps : List (List ℕ)) → HasRoom s ps → ArePages (paged s ps) (paged_list s ps)
+pub ArePages-paged : (least : ℕ) (s : Stream) (ps : List (List ℕ)) → HasRoom s ps → ArePages (paged least s ps) (paged_list least s ps)
 unfolding paged
-ArePages-paged s ps room = ArePages-written_pages (paged_list s ps) (AllWritable-paged_list s ps room)
+ArePages-paged least s ps room = ArePages-written_pages (paged_list least s ps) (AllWritable-paged_list least s ps room)
 
 -- the packets on them are its headers and these frame packets
-pub packets_of-paged_list : (s : Stream) (ps : List (List ℕ)) → HasRoom s ps → packets_of (paged_list s ps) ≡ s.ident ∷ s.comment ∷ s.setup ∷ ps
+pub packets_of-paged_list : (least : ℕ) (s : Stream) (ps : List (List ℕ)) → HasRoom s ps → packets_of (paged_list least s ps) ≡ s.ident ∷ s.comment ∷ s.setup ∷ ps
 unfolding paged_list packets_of segments packets_from
-packets_of-paged_list s [] room =
+packets_of-paged_list least s [] room =
     ap (packets_from []) (segments_of-pages_list s.serial 0 first_page (header_segments s) IsSound-first_page (AllFit-headers_alone s)) ∙ ap (λ l. packets_from [] (map piece_of l)) (sym (append-nil (header_segments s))) ∙ packets_from-header_segments s []
-packets_of-paged_list s (p ∷ ps) room =
-    ap (packets_from []) (segments_of-pages_list s.serial 4 first_page _ IsSound-first_page (all_fit s p ps room))
-    ∙ packets_from-header_segments s _ ∙ ap (λ l. s.ident ∷ s.comment ∷ s.setup ∷ l) (packets_from-frame_segments s.base s.shift 0 0 (p ∷ ps))
+packets_of-paged_list least s (p ∷ ps) room =
+    ap (packets_from []) (segments_of-pages_list s.serial 4 first_page _ IsSound-first_page (all_fit least s p ps room))
+    ∙ packets_from-header_segments s _ ∙ ap (λ l. s.ident ∷ s.comment ∷ s.setup ∷ l) (packets_from-frame_segments least s.base s.shift 0 0 (p ∷ ps))

@@ -6,7 +6,7 @@ use Rattle.std.proofs.lemmas.List.Sums.{sum_by-append, sum_by-cons}
 use Rattle.ogg_page.specs.Page.{ArePages}
 use Rattle.ogg_page.specs.Written.{written_page, written_pages}
 use Rattle.ogg_page.specs.Packets.{Piece, segments, segments_of}
-use Rattle.ogg_page.specs.OutputPages.{Held, Segment, next_page, first_page, grown, page_with, pages_list, pages_from, cut_at_255, packet_segments}
+use Rattle.ogg_mux.specs.OutputPages.{Held, Segment, next_page, first_page, grown, page_with, pages_list, pages_from, cut_at_255, packet_segments}
 use Rattle.ogg_page.proofs.PacketLemmas.{segments-more}
 use Rattle.ogg_page.proofs.WrittenLemmas.{IsWritable, AllWritable, ArePages-written_pages}
 
