@@ -56,6 +56,7 @@ pub fn write_page(
     ensures written { OnOk result (out.new.items ≡ out.old.items ++ written_page (page_from head.now lacing.now body.now)) }
     ensures memory { OnErr result (out.new.items ≡ out.old.items) }
     ensures full { OnErr result (vec_capacity out.old < vec_len out.old + bytes_of_page (page_from head.now lacing.now body.now)) }
+    ensures capacity { vec_capacity out.old ≤ vec_capacity out.new }
     // Whatever bytes follow the page, it is read back.
     ensures reads_back { let page = page_from head.now lacing.now body.now in
         (rest : List ℕ) → page_at_front (written_page page ++ rest) ≡ Ok page }
