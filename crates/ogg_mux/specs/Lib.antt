@@ -1,1 +1,3 @@
 pub mod OutputPages
+pub mod Muxing
+pub mod Room
