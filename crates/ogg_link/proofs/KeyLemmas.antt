@@ -14,7 +14,7 @@ is_key-append [] bytes h = absurd (omega arith)
 is_key-append (b ∷ front) bytes h = refl
 
 -- what is known of a packet with one piece more
-key_of : (known : Progress) (front bytes : List ℕ) → Holds known front → (if known.unfinished then known.key else is_key bytes) ≡ is_key (front ++ bytes)
+pub key_of : (known : Progress) (front bytes : List ℕ) → Holds known front → (if known.unfinished then known.key else is_key bytes) ≡ is_key (front ++ bytes)
 key_of known front bytes h =
     elim known.unfinished as (λ b. (b ≡ known.unfinished) → (if b then known.key else is_key bytes) ≡ is_key (front ++ bytes)) [
       | true ↦ λ e. h.key (sym e) ∙ sym (is_key-append front bytes (h.begun (sym e)))

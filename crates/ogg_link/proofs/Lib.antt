@@ -3,3 +3,4 @@ pub mod GranuleLemmas
 pub mod ProgressLemmas
 pub mod StepLemmas
 pub mod KeyLemmas
+pub mod EndLemmas

@@ -3,6 +3,7 @@ use Rattle.std.specs.Prelude.{◌≡◌, ℕ, min, ◌+◌, ◌-◌, ◌/◌, �
 use Rattle.std.specs.List.{last_or}
 use Rattle.ogg_page.specs.Packets.{Piece}
 use Rattle.ogg_link.specs.declared.state.Progress.{Progress}
+use Rattle.ogg_link.specs.declared.state.Counted.{Counted}
 use Rattle.ogg_link.specs.Track.{headers, is_key}
 
 -- one packet more; the count stays at the greatest number of 64 bits
@@ -12,6 +13,11 @@ one_more packets = min (packets + 1) (2 ^ 64 - 1)
 -- the last key frame when a packet has ended behind so many
 abbrev pub key_after : Bool → ℕ → Option ℕ → Option ℕ
 key_after key packets last_key = if key && nat_lt 2 packets then Some (packets - headers) else last_key
+
+-- what the end of a packet tells behind so many others, the last key frame among which is given: its number, whether it holds a
+-- key frame, and the last key frame at or before the frame that it carries
+abbrev pub counted : ℕ → Option ℕ → List ℕ → Counted
+counted packets last_key packet = record { number = packets; key = is_key packet; last_key = key_after (is_key packet) packets last_key }
 
 -- the last key frame when these packets more have ended
 unfoldable pub last_key_among : ℕ → Option ℕ → List (List ℕ) → Option ℕ

@@ -1,6 +1,6 @@
 //! Laws of the definitions that contracts here cite. These functions do nothing: their clauses name lemmas of `proofs/`,
 //! which the proofs of crates above cite.
-ghost use Rattle.std.specs.Prelude.{◌≡◌, ◌⊎◌, ◌≤◌, ◌<◌, ◌+◌, ◌-◌, ◌^◌, ◌++◌, ◌∷◌, [], ℕ, List, true, false, Some, None, Ok, length, min, sum};
+ghost use Rattle.std.specs.Prelude.{◌≡◌, ◌⊎◌, ◌≤◌, ◌<◌, ◌+◌, ◌-◌, ◌^◌, ◌++◌, ◌∷◌, [], ℕ, Bool, List, true, false, Some, None, Ok, length, min, sum};
 ghost use Rattle.ogg_page.specs.Page.{Page};
 ghost use Rattle.ogg_page.specs.Packets.{Piece, segments, packets_from, left_from};
 ghost use Rattle.ogg_link.specs.Track.{granule_of};
@@ -10,8 +10,8 @@ ghost use Rattle.ogg_link.specs.Faultless.{Follows, Begins, stepped};
 ghost use Rattle.ogg_link.specs.Flags.{is_continued};
 ghost use Rattle.ogg_link.specs.Granules.{last_frame, settled};
 ghost use Rattle.ogg_link.specs.Parts.{parts_of, lacing_if};
-ghost use Rattle.ogg_link.specs.Progress.{after_pieces, is_alone, is_crowded, lacing_of, last_key_among, unfinished_behind, GoOn, Holds};
-ghost use Rattle.ogg_link.specs.Walk.{start, step, is_of_track};
+ghost use Rattle.ogg_link.specs.Progress.{after_piece, after_pieces, counted, one_more, is_alone, is_crowded, lacing_of, last_key_among, unfinished_behind, GoOn, Holds};
+ghost use Rattle.ogg_link.specs.Walk.{start, step, ended, is_of_track};
 
 /// A page of the track for which no check fails has no fault, and the parts of a page without a fault are told by its flag 1.
 pub fn pages_without_a_fault()
@@ -46,11 +46,22 @@ pub fn packets_of_pieces()
         → Holds (after_pieces known pieces) (left_from front pieces) }
 {}
 
-/// From page to page a walk knows the packets of the track, and what it knows of the unfinished one is so.
+/// The book by packets: a piece that ends counts its packet, and one behind which its packet goes on counts nothing.
+pub fn packets_of_one_piece()
+    ensures ends { (known : Progress) (front bytes : List ℕ) → Holds known front → after_piece known (record { bytes = bytes; ends = true })
+        ≡ record { packets = one_more known.packets; unfinished = false; key = false; last_key = (counted known.packets known.last_key (front ++ bytes)).last_key } }
+    ensures holds { (known : Progress) (front bytes : List ℕ) (ends : Bool) → Holds known front → (ends ≡ false → 0 < length bytes)
+        → Holds (after_piece known (record { bytes = bytes; ends = ends })) (left_from front (record { bytes = bytes; ends = ends } ∷ [])) }
+{}
+
+/// From page to page a walk knows the packets of the track, and what it knows of the unfinished one is so. Granule positions
+/// change nothing of it, and at the end three packets have ended.
 pub fn packets_of_a_walk()
     ensures start { Holds start.progress [] }
     ensures known { (state next : State) (page : Page) → step state page ≡ Ok next
         → next.progress ≡ after_pieces state.progress (segments (lacing_if (is_of_track state page) page.lacing) page.body) }
     ensures holds { (state next : State) (page : Page) (front : List ℕ) → sum page.lacing ≡ length page.body → step state page ≡ Ok next → Holds state.progress front
         → Holds next.progress (left_from front (segments (lacing_if (is_of_track state page) page.lacing) page.body)) }
+    ensures settled { (state next : State) (shift : ℕ) → settled state shift ≡ Ok next → next.progress ≡ state.progress }
+    ensures ended { (state next : State) → ended state ≡ Ok next → 3 ≤ state.progress.packets }
 {}

@@ -18,7 +18,8 @@ mod walk;
 pub use fault::{LinkFault, LinkRefusal};
 pub use granules::granule;
 pub use part::{Events, Part, parts_of};
-pub use state::{Progress, State};
+pub use progress::is_key;
+pub use state::{Counted, Progress, State};
 pub use walk::Walk;
 
 #[cfg(test)]

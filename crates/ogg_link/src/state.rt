@@ -13,6 +13,17 @@ pub struct Progress {
     pub last_key: Option<u64>,
 }
 
+/// What the end of a packet tells.
+#[derive(Clone, Copy, Debug, PartialEq, Eq)]
+pub struct Counted {
+    /// The packet's number. Packets count from 0, headers with them.
+    pub number: u64,
+    /// It begins as a key frame does.
+    pub key: bool,
+    /// The last key frame at or before the frame that it carries. Frames count from 0, behind three headers.
+    pub last_key: Option<u64>,
+}
+
 /// What is known of a link before a page.
 #[derive(Clone, Copy, Debug, PartialEq, Eq)]
 pub struct State {

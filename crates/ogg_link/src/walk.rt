@@ -57,6 +57,13 @@ impl Walk {
         }
     }
 
+    /// How far the packets of the track have come.
+    pub fn progress(&self) -> Progress
+        ensures { result ≡ self.now.state.progress }
+    {
+        self.state.progress
+    }
+
     /// The next page of the file. Its faults are looked for in this order: `Chained`, `NoTrack`, and for a page of the track
     /// `DataAfterEnd`, `MissingPage`, `BadContinued`, `HeadersNotAlone`. Only a page without a fault that brings parts takes
     /// memory. After `NoMem` the walk is as it was.
