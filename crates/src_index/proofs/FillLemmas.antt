@@ -4,7 +4,7 @@ use Rattle.std.proofs.lemmas.List.{get_or-drop}
 use Rattle.ogg_link.specs.Track.{is_key}
 use Rattle.src_index.specs.Index.{PageMark, Place, Frame, Index, frame_count}
 use Rattle.src_index.specs.Track.{frame_at, frames_of}
-use Rattle.src_index.specs.Heads.{most_bytes}
+use Rattle.src_index.specs.Checks.{most_bytes}
 use Rattle.src_index.specs.Judge.{Judged, Verdict}
 use Rattle.src_index.specs.Gather.{StandsAt, first_packet, segments_from}
 use Rattle.src_index.specs.Loading.{IsIndexed}

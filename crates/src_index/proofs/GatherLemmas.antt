@@ -13,7 +13,7 @@ use Rattle.ogg_page.proofs.PageLemmas.{page_is, bytes_of_page-is, front_whole}
 use Rattle.ogg_page.specs.Packets.{Piece, segments, packets_from}
 use Rattle.src_index.specs.Index.{PageMark, Place, Frame}
 use Rattle.ogg_link.specs.Track.{headers}
-use Rattle.src_index.specs.Heads.{most_bytes}
+use Rattle.src_index.specs.Checks.{most_bytes}
 use Rattle.src_index.specs.Quantiser.{quantiser_behind, last_quantiser}
 use Rattle.src_index.specs.Gather.{IsMarkOf, IsFrameOf, AreFramesOf, StandsAt, body_at, first_packet, segments_at, segments_along, segments_from}
 use Rattle.src_index.specs.SamePage.{same_page, has_marks}

@@ -4,7 +4,7 @@ use Rattle.std.proofs.lemmas.List.Elements.{All-nil, All-cons}
 use Rattle.ogg_link.specs.Track.{is_key}
 use Rattle.src_index.specs.Index.{PageMark, Frame, Index, frame_count, keys_of, quantisers_of}
 use Rattle.src_index.specs.Track.{frames_of}
-use Rattle.src_index.specs.Heads.{most_bytes}
+use Rattle.src_index.specs.Checks.{most_bytes}
 use Rattle.src_index.specs.Quantiser.{quantiser_behind, quantisers}
 use Rattle.src_index.specs.Gather.{AreFramesOf, IsIndexOf}
 

@@ -1,6 +1,7 @@
 pub mod VerdictLemmas
-pub mod HeadLemmas
-pub mod WalkLemmas
+pub mod CheckLemmas
+mod SpacingLemmas
+mod PieceLemmas
 mod PagesLemmas
 mod AheadLemmas
 mod LetterLemmas

@@ -18,7 +18,7 @@ use Rattle.src_index.specs.declared.fault.Refusal.{Refusal}
 use Rattle.src_index.specs.declared.fault.Refusal.TheVariants.{Bad, ReadFault, NoMem}
 use Rattle.src_index.specs.declared.judge.Judging.{Judging}
 use Rattle.src_index.specs.Index.{PageMark, Index}
-use Rattle.src_index.specs.Heads.{most_bytes}
+use Rattle.src_index.specs.Checks.{most_bytes}
 use Rattle.src_index.specs.Judge.{Before, nothing, Judges, JudgedFrom, Judged, Verdict, page_checks, front_checks, in_page, end_check, end_verdict, verdict_here, failing, packets_on}
 use Rattle.src_index.specs.Gather.{IsMarkOf, AreFramesOf, segments_at, segments_along}
 use Rattle.src_index.specs.Quantiser.{last_quantiser}

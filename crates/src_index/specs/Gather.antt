@@ -5,7 +5,7 @@ use Rattle.ogg_page.specs.Packets.{Piece, segments}
 use Rattle.ogg_link.specs.Track.{headers, is_key}
 use Rattle.src_index.specs.Index.{PageMark, Place, Frame, Index}
 use Rattle.src_index.specs.Track.{frames_of, packet_at}
-use Rattle.src_index.specs.Heads.{most_bytes}
+use Rattle.src_index.specs.Checks.{most_bytes}
 use Rattle.src_index.specs.Quantiser.{quantiser_behind}
 use Rattle.src_index.specs.Seekable.{IsSeekable}
 

@@ -1,10 +1,27 @@
--- The headers that have ended, as packets (private).
+-- The headers that have ended, as packets and by what they say (private).
 use Rattle.std.specs.Prelude.{ℕ, List, [], ◌∷◌}
+use Rattle.thr_ident.specs.Ident.{header_of}
+use Rattle.thr_setup.specs.Setup.{contents}
+use Rattle.src_index.specs.declared.headers.Heads.{Heads}
+use Rattle.src_index.specs.declared.headers.Heads.TheVariants.{Nothing, First, Second}
 use Rattle.src_index.specs.declared.headers.Headers.{Headers}
-use Rattle.src_index.specs.declared.headers.Headers.TheVariants.{Nothing, First, Second, All}
+use Rattle.src_index.specs.declared.headers.Headers.TheVariants.{Begun, All}
+use Rattle.src_index.specs.Said.{Said, Start, WithIdent, WithComment, WithSetup}
+
+abbrev pub packets_before : Heads → List (List ℕ)
+packets_before Nothing = []
+packets_before (First ident) = ident.packet.items ∷ []
+packets_before (Second ident comment) = ident.packet.items ∷ comment.items ∷ []
 
 abbrev pub packets_in : Headers → List (List ℕ)
-packets_in Nothing = []
-packets_in (First ident) = ident.packet.items ∷ []
-packets_in (Second ident comment) = ident.packet.items ∷ comment.items ∷ []
+packets_in (Begun heads) = packets_before heads
 packets_in (All headers) = headers.ident.packet.items ∷ headers.comment.items ∷ headers.setup.packet.items ∷ []
+
+abbrev pub said_before : Heads → Said
+said_before Nothing = Start
+said_before (First ident) = WithIdent (header_of ident.header)
+said_before (Second ident comment) = WithComment (header_of ident.header)
+
+abbrev pub said_of : Headers → Said
+said_of (Begun heads) = said_before heads
+said_of (All headers) = WithSetup (header_of headers.ident.header) (contents headers.setup.header)

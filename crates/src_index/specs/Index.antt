@@ -1,5 +1,7 @@
 -- The index of a judged file: what is kept of it in place of its bytes (own).
-use Rattle.std.specs.Prelude.{ℕ, Bool, false, List, length, map, get_or}
+use Rattle.std.specs.Prelude.{ℕ, Bool, false, List, IfOk, length, map, get_or}
+use Rattle.thr_ident.specs.Ident.{ident_of}
+use Rattle.src_index.specs.Spacing.{AreSpaced}
 
 -- a page of the track: the byte at which it begins, its checksum field and its lacing values
 pub record PageMark : Type 0 where
@@ -48,6 +50,10 @@ key_at index n = get_or (keys_of index) n false
 -- the quantiser of a frame
 abbrev pub quantiser_at : Index → ℕ → ℕ
 quantiser_at index n = get_or (quantisers_of index) n 0
+
+-- its key frames are spaced as its identification header says
+abbrev pub HasSpacing : Index → Type 0
+HasSpacing index = IfOk (ident_of index.ident) (λ header. AreSpaced header.shift (keys_of index))
 
 -- how many links there are
 abbrev pub link_count : Index → ℕ

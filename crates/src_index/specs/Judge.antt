@@ -9,20 +9,21 @@ use Rattle.ogg_link.specs.declared.fault.LinkFault.{LinkFault}
 use Rattle.ogg_link.specs.Parts.{lacing_if}
 use Rattle.ogg_link.specs.Walk.{start, step, ended, is_of_track}
 use Rattle.ogg_link.specs.Granules.{settled}
-use Rattle.src_index.specs.declared.heads.Known.{Known}
 use Rattle.src_index.specs.declared.fault.Fault.{Fault}
 use Rattle.src_index.specs.declared.fault.Fault.TheVariants.{InPage, InLink}
-use Rattle.src_index.specs.Heads.{unknown, page_over}
+use Rattle.src_index.specs.Said.{Said, Start, shift_of}
+use Rattle.src_index.specs.Checks.{page_over}
 
--- what judging knows behind the pages before a page: the walk, what the packets tell, and the unfinished packet
+-- what judging knows behind the pages before a page: the walk with its book of the track, what the packets say, and the unfinished
+-- packet
 pub record Before : Type 0 where
   pub walk : State
-  pub known : Known
+  pub said : Said
   pub begun : List ℕ
 
 -- before the first page
 abbrev pub nothing : Before
-nothing = record { walk = start; known = unknown; begun = [] }
+nothing = record { walk = start; said = Start; begun = [] }
 
 -- the segments of a page, where it is of the track
 abbrev pub track_pieces : State → Page → List Piece
@@ -36,14 +37,14 @@ abbrev pub in_link : {A : Type 0} → ℕ → Result A LinkFault → Result A Fa
 in_link at read = and_then read Ok (InLink at)
 
 -- the packets that end with these pieces, in order, and then the one that stays unfinished
-abbrev pub pieces_over : Before → ℕ → List Piece → Result Known Fault
-pieces_over before at pieces = page_over at before.known (packets_from before.begun pieces) (left_from before.begun pieces)
+abbrev pub pieces_over : Before → ℕ → List Piece → Result Said Fault
+pieces_over before at pieces = page_over at before.walk.progress before.said before.begun pieces
 
 -- what is left behind a page
-abbrev pub with_pieces : Before → List Piece → Known → State → Before
-with_pieces before pieces known walk = record {
+abbrev pub with_pieces : Before → List Piece → Said → State → Before
+with_pieces before pieces said walk = record {
   walk = walk;
-  known = known;
+  said = said;
   begun = left_from before.begun pieces;
 }
 
@@ -51,9 +52,9 @@ with_pieces before pieces known walk = record {
 unfoldable pub page_checks : Before → ℕ → Page → Result Before Fault
 page_checks before at page = do
   walk ← in_link at (step before.walk page)
-  known ← pieces_over before at (track_pieces before.walk page)
-  walk ← in_link at (settled walk known.shift)
-  Ok (with_pieces before (track_pieces before.walk page) known walk)
+  said ← pieces_over before at (track_pieces before.walk page)
+  walk ← in_link at (settled walk (shift_of said))
+  Ok (with_pieces before (track_pieces before.walk page) said walk)
 
 -- what judging finds: the track's packets, or the first check that fails
 abbrev pub Verdict : Type 0

@@ -1,26 +1,28 @@
 -- A judging in progress, and how it stands to the bytes of a file (private).
 use Rattle.std.specs.Prelude.{◌≡◌, ⊤, ℕ, ◌<◌, true, false, List, [], drop, None, Result, Ok, Err}
+use Rattle.ogg_link.specs.Progress.{Holds}
 use Rattle.src_index.specs.declared.judge.Judging.{Judging}
 use Rattle.src_index.specs.declared.fault.Refusal.{Refusal}
 use Rattle.src_index.specs.declared.fault.Refusal.TheVariants.{Bad, ReadFault, NoMem}
 use Rattle.src_index.specs.Judge.{Before, JudgedFrom, Judged, Verdict}
 use Rattle.src_index.specs.Seekable.{IsPage, IsStart, IsSeekable}
-use Rattle.src_index.specs.Holding.{kept_of, IsCounted}
+use Rattle.src_index.specs.Holding.{kept_of, AreTallied}
+use Rattle.src_index.specs.Headers.{said_of}
 use Rattle.src_index.specs.Keeping.{Keeps}
 
 -- what judging knows behind the pages so far
 abbrev pub before_of : Judging → Before
 before_of judging = record {
   walk = judging.walk.state;
-  known = judging.packets.known;
+  said = said_of judging.packets.headers;
   begun = judging.packets.begun.items;
 }
 
--- the walk goes on, and has counted as many packets as have ended
+-- the walk goes on, knows the packet that has begun, and has counted as many packets as are kept
 pub record GoesOn (judging : Judging) : Type 0 where
   pub whole : judging.walk.failed ≡ None
-  pub counted : judging.walk.state.progress.packets ≡ judging.packets.known.packets
-  pub all : IsCounted judging.packets
+  pub holds : Holds judging.walk.state.progress judging.packets.begun.items
+  pub tallied : AreTallied judging.walk.state.progress judging.packets
 
 -- the pages before a byte were judged: what falls from there on falls on the file, what is kept is of these packets, and the
 -- mark of false pages tells of the bytes before

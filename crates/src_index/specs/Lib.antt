@@ -1,9 +1,11 @@
 pub mod Track
+pub mod Said
+pub mod Spacing
 pub mod Quantiser
 pub mod Index
 pub mod Seekable
 pub mod SamePage
-pub mod Heads
+pub mod Checks
 pub mod Judge
 pub mod Gather
 pub mod Loading

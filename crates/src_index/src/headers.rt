@@ -1,5 +1,5 @@
 // The headers of a track, parsed as they end and kept with their bytes (Theora I, 6).
-ghost use Rattle.std.specs.Prelude.{◌≡◌, Ok};
+ghost use Rattle.std.specs.Prelude.{◌≡◌, ◌<◌, ◌^◌, Ok};
 ghost use Rattle.std.specs.Coded.{codes};
 ghost use Rattle.thr_huff.specs.TreeCode.{forest_code};
 ghost use Rattle.thr_ident.specs.Ident.{ident_of, header_of};
@@ -24,6 +24,14 @@ pub(crate) struct SetupHeader {
     ghost told: { setup_of packet.items ≡ Ok (contents header) } by { Prim.hlevel (codes, forest_code) },
 }
 
+/// The headers before the setup header that have ended.
+#[derive(Drop)]
+pub(crate) enum Heads {
+    Nothing,
+    First(IdentHeader),
+    Second(IdentHeader, Vec<u8>),
+}
+
 /// All three headers.
 #[derive(Drop)]
 pub(crate) struct AllHeaders {
@@ -35,8 +43,24 @@ pub(crate) struct AllHeaders {
 /// The headers that have ended.
 #[derive(Drop)]
 pub(crate) enum Headers {
-    Nothing,
-    First(IdentHeader),
-    Second(IdentHeader, Vec<u8>),
+    Begun(Heads),
     All(AllHeaders),
+}
+
+impl Headers {
+    ghost use Rattle.src_index.specs.Said.{shift_of};
+    ghost use Rattle.src_index.specs.Headers.{said_of};
+
+    // How many low bits of a granule position count the frames behind a key frame; 0 where it is not said.
+    pub(crate) fn shift(&self) -> u8
+        ensures value { result ≡ shift_of (said_of self.now) }
+        ensures bound { result < 2 ^ 5 }
+    {
+        match self {
+            Headers::Begun(Heads::Nothing) => 0,
+            Headers::Begun(Heads::First(ident)) => ident.header.shift,
+            Headers::Begun(Heads::Second(ident, _)) => ident.header.shift,
+            Headers::All(headers) => headers.ident.header.shift,
+        }
+    }
 }

@@ -1,10 +1,13 @@
 // Judging page after page (own).
-ghost use Rattle.std.specs.Prelude.{◌≡◌, ◌≤◌, ◌<◌, ◌||◌, ◌^◌, ◌+◌, ◌*◌, ℕ, List, true, false, Ok, IfErr, IfOk, OnOk, IsOk, IsErrOf, All, drop, length};
+ghost use Rattle.std.specs.Prelude.{◌≡◌, ◌≤◌, ◌<◌, ◌||◌, ◌^◌, ◌+◌, ◌*◌, ℕ, List, true, false, Ok, IfErr, IfOk, OnOk, IsOk, IsErrOf, All, drop, length, map};
 ghost use Rattle.ogg_page.specs.Page.{HasShape, view, page_at_front};
 ghost use Rattle.ogg_link.specs.Walk.{is_of_track};
 ghost use Rattle.src_index.specs.Judge.{nothing, page_checks, packets_on, end_check};
 ghost use Rattle.src_index.specs.Refusing.{RefusesAs};
-ghost use Rattle.src_index.specs.Holding.{kept_of, IsCounted};
+ghost use Rattle.src_index.specs.Said.{shift_of};
+ghost use Rattle.src_index.specs.Spacing.{AreSpaced};
+ghost use Rattle.src_index.specs.Headers.{said_of};
+ghost use Rattle.src_index.specs.Holding.{kept_of};
 ghost use Rattle.src_index.specs.Kept.{page_kept};
 ghost use Rattle.src_index.specs.Windows.{OpensTwo};
 
@@ -54,13 +57,15 @@ impl Judging {
         ensures fault { IfErr result (λ refusal. RefusesAs refusal (page_checks (before_of self.old) at (view page.now))) }
         ensures same { self.new.has_false ≡ self.old.has_false }
     {
+        let book = self.walk.progress();
         let events = match self.walk.page(page) {
             Ok(events) => events,
             Err(LinkRefusal::Bad(fault)) => return Err(Refusal::Bad(Fault::InLink { at, fault })),
             Err(LinkRefusal::NoMem) => return Err(Refusal::NoMem),
         };
-        self.packets.next_page(events.track, at, checksum, page)?;
-        match self.walk.settle(self.packets.known.shift) {
+        self.packets
+            .next_page(book, events.track, at, checksum, page)?;
+        match self.walk.settle(self.packets.headers.shift()) {
             Ok(()) => Ok(()),
             Err(fault) => Err(Refusal::Bad(Fault::InLink { at, fault })),
         }
@@ -103,7 +108,9 @@ impl Judging {
     pub(crate) fn end(mut self, size: u64) -> Result<Packets, Refusal>
         requires { GoesOn self }
         ensures packets { IfOk result (λ packets. packets ≡ self.packets) }
-        ensures ended { OnOk result (IsOk (end_check (before_of self) size) × (3 ≤ self.packets.known.packets)) }
+        ensures ended { OnOk result (IsOk (end_check (before_of self) size)) }
+        ensures three { OnOk result (3 ≤ length (kept_of self.packets).headers) }
+        ensures spaced { AreSpaced (shift_of (said_of self.packets.headers)) (map (λ frame. frame.key) (kept_of self.packets).frames) }
         ensures fault { IfErr result (λ refusal. RefusesAs refusal (end_check (before_of self) size)) }
         ensures read { ¬ IsErrOf result Refusal.ReadFault }
     {

@@ -7,9 +7,9 @@
 mod ahead;
 mod false_pages;
 mod fault;
+mod frames;
 mod headers;
 mod heading;
-mod heads;
 mod judge;
 pub mod laws;
 mod load;

@@ -14,11 +14,12 @@ ghost use Rattle.src_index.specs.Reading.{IsReading, IsGathering};
 ghost use Rattle.src_index.specs.SamePage.{same_page as same_page_of};
 
 use crate::SourceFault;
-use crate::heads::{MOST_BYTES, is_key};
+use crate::frames::MOST_BYTES;
 use crate::packets::Place;
 use crate::pages::{HEADER, Kept, Pages, page_size};
 use crate::same::same_page;
 use crate::source::Source;
+use ogg_link::is_key;
 use std::alloc::{AllocError, Global};
 use vid_desk::Desk;
 

@@ -1,10 +1,13 @@
 // A judged source.
-ghost use Rattle.std.specs.Prelude.{◌≡◌, ℕ, List, [], ◌∷◌, ◌^◌, ◌<◌, ◌≤◌, Ok, IfOk, IsOk, IsErrOf, length, vec_len};
+ghost use Rattle.std.specs.Prelude.{◌≡◌, ℕ, List, [], ◌∷◌, ◌^◌, ◌<◌, ◌≤◌, Ok, IfOk, IsOk, IsErrOf, length, map, vec_len};
 ghost use Rattle.vid_desk.specs.Meaning.{Rose, Told, with_reads};
 ghost use Rattle.thr_ident.specs.Ident.{ident_of, header_of};
 ghost use Rattle.thr_setup.specs.Setup.{setup_of, contents};
-ghost use Rattle.src_index.specs.Index.{Index, frame_count, key_at, quantiser_at, link_count};
-ghost use Rattle.src_index.specs.Holding.{kept_of, IsCounted};
+ghost use Rattle.src_index.specs.Index.{Index, frame_count, key_at, quantiser_at, link_count, HasSpacing};
+ghost use Rattle.src_index.specs.Said.{shift_of};
+ghost use Rattle.src_index.specs.Spacing.{AreSpaced};
+ghost use Rattle.src_index.specs.Headers.{said_of};
+ghost use Rattle.src_index.specs.Holding.{kept_of};
 ghost use Rattle.src_index.specs.Judging.{GoesOn, Follows};
 ghost use Rattle.src_index.specs.Loading.{Answers, IsLoadedFrom, longest};
 ghost use Rattle.src_index.specs.Finding.{Finds};
@@ -40,6 +43,7 @@ pub struct Source {
 
 impl Model for Source {
     ghost use Rattle.std.specs.Prelude.{map};
+    ghost use Rattle.src_index.specs.Spacing.{AreSpaced};
     ghost use Rattle.src_index.specs.Index.{Index};
     ghost use Rattle.src_index.specs.Pages.{marks_of};
     ghost use Rattle.src_index.specs.Holding.{frame_of};
@@ -55,6 +59,8 @@ impl Model for Source {
       frames = map frame_of source.frames.items;
       seekable = source.seekable;
     } };
+
+    ghost invariant = { λ source. AreSpaced source.headers.ident.header.shift (map (λ frame. frame.key) (map frame_of source.frames.items)) };
 }
 
 /// The bytes of the three header packets of a link.
@@ -67,8 +73,8 @@ pub struct Headers<'a> {
 
 // The source of what judging has kept of a file of so many bytes.
 fn source_of(input: u32, packets: Packets, seekable: bool, size: u64) -> Result<Source, Refusal>
-    requires counted { IsCounted packets }
-    requires three { 3 ≤ packets.known.packets }
+    requires three { 3 ≤ length (kept_of packets).headers }
+    requires spaced { AreSpaced (shift_of (said_of packets.headers)) (map (λ frame. frame.key) (kept_of packets).frames) }
     ensures whole { IsOk result }
     ensures headers { IfOk result (λ source. (kept_of packets).headers ≡ source.ident ∷ source.comment ∷ source.setup ∷ []) }
     ensures kept { IfOk result (λ source. (source.input ≡ input) × (source.pages ≡ (kept_of packets).marks) × (source.frames ≡ (kept_of packets).frames) × (source.seekable ≡ seekable)) }
@@ -127,6 +133,8 @@ impl Source {
         requires id { id < (D.sees desk.old).found }
         ensures judged { Told (D.sees desk.old) id (λ bytes. Answers longest result bytes) }
         ensures loaded { IfOk result (λ source. IsLoadedFrom (D.sees desk.old) id source) }
+        // Over every desk, the first frame is a key frame, and each frame is near behind its key frame.
+        ensures spaced { IfOk result HasSpacing }
         ensures kept { with_reads (D.sees desk.old) (D.sees desk.new) }
         ensures count { (D.sees desk.old).read_faults ≤ (D.sees desk.new).read_faults }
         ensures cause { IsErrOf result SourceFault.ReadFault → Rose (D.sees desk.old).read_faults (D.sees desk.new).read_faults }
@@ -148,6 +156,7 @@ impl Source {
     pub fn frames(&self) -> u32
         ensures value { result ≡ frame_count self.now }
         ensures most { result ≤ 2 ^ 24 }
+        ensures spaced { HasSpacing self.now }
     {
         self.frames.len() as u32
     }

@@ -6,4 +6,4 @@ returns-in-Err-clause-finds c = λ bytes whole f. ends_badly_as c.args.judging b
 
 pub returns-in-Ok-clause-finds : goal.returns-in-Ok-clause-finds
 returns-in-Ok-clause-finds c = λ bytes whole f.
-    found_as c.args.judging c.in-Ok.packets c.source_of.result bytes c.args.size c.args.input whole c.in-Ok.ensures.packets c.in-Ok.ensures.ended.0 c.source_of.ensures.whole c.source_of.ensures.headers c.source_of.ensures.kept f
+    found_as c.args.judging c.in-Ok.packets c.source_of.result bytes c.args.size c.args.input whole c.in-Ok.ensures.packets c.in-Ok.ensures.ended c.source_of.ensures.whole c.source_of.ensures.headers c.source_of.ensures.kept f

@@ -1,10 +1,11 @@
-use Rattle.std.proofs.Common.{rules, ◌≡◌, Ok, is_ok, ap, arith}
+use Rattle.std.proofs.Common.{rules, ◌≡◌, Ok}
 use Rattle.ogg_link.specs.Walk.{ended}
-use Rattle.src_index.specs.Judge.{in_link}
-use Rattle.src_index.proofs.WalkLemmas.{three_there}
+use Rattle.ogg_link.proofs.EndLemmas.{three_ended}
+use Rattle.src_index.specs.Holding.{kept_of}
+use Rattle.src_index.proofs.SpacingLemmas.{three_kept}
 use Rattle.src_index.proofs.judge.Judging.end.Goals as goal
 
-pub returns-in-Ok-clause-ended : goal.returns-in-Ok-clause-ended
-returns-in-Ok-clause-ended c =
+pub returns-in-Ok-clause-three : goal.returns-in-Ok-clause-three
+returns-in-Ok-clause-three c =
     let end : ended c.args.self.walk.state ≡ Ok c.end.new.self.state = search rules in
-    (ap (λ read. is_ok (in_link c.args.size read)) end, omega (arith, three_there c.args.self.walk.state c.end.new.self.state end, c.requires.counted))
+    three_kept c.args.self.walk.state.progress.packets _ c.args.self.walk.state.progress.last_key (kept_of c.args.self.packets) c.requires.tallied (three_ended c.args.self.walk.state c.end.new.self.state end)
