@@ -1,9 +1,8 @@
 -- What the checks of packets that passed say. Judging and laws on judged files cite these.
-use Rattle.std.proofs.Common.{◌≡◌, ℕ, ◌+◌, ◌-◌, ◌≤◌, ◌<◌, ◌||◌, ◌&&◌, not, Bool, true, false, List, [], ◌∷◌, length, Option, Some, None, Result, Ok, Err, nat_le, nat_lt, if◌then◌else◌, inl, inr, true≢false, refl, ap, sym, ◌∙◌, arith, All, lt-ltb}
+use Rattle.std.proofs.Common.{◌≡◌, ℕ, ◌-◌, ◌≤◌, ◌<◌, ◌||◌, not, Bool, true, false, List, [], ◌∷◌, length, Option, Result, Ok, Err, nat_le, nat_lt, if◌then◌else◌, inl, inr, true≢false, refl, ap, sym, ◌∙◌, arith, All, lt-ltb}
 use Rattle.std.specs.Prelude.{⊤}
 use Rattle.std.proofs.lemmas.Bool.{cases_lt, le-leb, le-ltb}
 use Rattle.std.proofs.lemmas.List.Elements.{All-nil, All-cons}
-use Rattle.vid_base.specs.declared.fault.PacketFault.{PacketFault}
 use Rattle.vid_base.specs.declared.fault.PacketFault.TheVariants.{TooLarge, KeyTooFar, NotData, FirstNotKey}
 use Rattle.vid_base.specs.Reading.{◌>>=◌, and_then}
 use Rattle.ogg_page.specs.Packets.{Piece, packets_from, left_from}
@@ -14,7 +13,7 @@ use Rattle.ogg_link.specs.Progress.{counted, key_after, one_more, after_pieces}
 use Rattle.thr_ident.specs.Header.{Header}
 use Rattle.thr_setup.specs.Setup.{Contents}
 use Rattle.src_index.specs.Said.{Said, WithSetup}
-use Rattle.src_index.specs.Checks.{packet_step, packets_over, page_over, left_over, fault_at, said_step, frame_step, frame_check, frame_of, is_data, is_near, is_too_large, most_packets, most_bytes}
+use Rattle.src_index.specs.Checks.{packet_step, packets_over, page_over, left_over, fault_at, said_step, frame_step, frame_check, is_data, is_near, is_too_large, most_packets, most_bytes}
 
 -- what was read before a reading that went well
 pub bind_ok : {A B F : Type 0} (read : Result A F) (next : A → Result B F) (value : B) → read >>= next ≡ Ok value → (first : A) × (read ≡ Ok first) × (next first ≡ Ok value)
@@ -71,26 +70,16 @@ frame_leaves header contents next number last packet h =
     left true e = cc
     left false e = cc
 
--- the first frame is a key frame, and each is near
-pub frame_passed : (header : Header) (contents : Contents) (number : ℕ) (last : Option ℕ) (packet : List ℕ) → frame_step header contents (counted number last packet) packet ≡ Ok (WithSetup header contents)
-    → (number ≤ 3 → is_key packet ≡ true) × (is_near header.shift (number - 3) (key_after (is_key packet) number last) ≡ true)
-frame_passed header contents number last packet h =
+-- each is near
+pub frame_near : (header : Header) (contents : Contents) (number : ℕ) (last : Option ℕ) (packet : List ℕ) → frame_step header contents (counted number last packet) packet ≡ Ok (WithSetup header contents)
+    → is_near header.shift (number - 3) (key_after (is_key packet) number last) ≡ true
+frame_near header contents number last packet h =
     let read = bind_ok (frame_check (nat_lt 0 (number - 3)) packet) (λ checked. if is_near header.shift (number - 3) (key_after (is_key packet) number last) then Ok (WithSetup header contents) else Err KeyTooFar) (WithSetup header contents) h in
-    (λ first. key_first packet read.0 (sym (ap (λ b. frame_check b packet) (le-ltb 0 (number - 3) (omega (arith, first)))) ∙ read.1),
-    near (is_near header.shift (number - 3) (key_after (is_key packet) number last)) read.2)
+    near (is_near header.shift (number - 3) (key_after (is_key packet) number last)) read.2
   where
     near : (b : Bool) → (if b then Ok (WithSetup header contents) else Err KeyTooFar) ≡ Ok (WithSetup header contents) → b ≡ true
     near true e = refl
     near false e = cc
-
-    not_not : (b : Bool) → not b ≡ false → b ≡ true
-    not_not true e = refl
-    not_not false e = sym e
-
-    key_first : (packet : List ℕ) (checked : ⊤) → frame_check false packet ≡ Ok checked → is_key packet ≡ true
-    key_first packet checked e =
-        let first = passed (not (is_data packet)) NotData (if not (is_key packet) then Err FirstNotKey else Ok tt) checked e in
-        not_not (is_key packet) (passed (not (is_key packet)) FirstNotKey (Ok tt) checked first.1).0
 
 -- the packets of a page
 pub page_packets : (at : ℕ) (book : Progress) (said next : Said) (begun : List ℕ) (pieces : List Piece) → page_over at book said begun pieces ≡ Ok next → packets_over at book.packets book.last_key said (packets_from begun pieces) ≡ Ok next

@@ -69,7 +69,11 @@ fn is_near(shift: u8, frame: u64, last_key: Option<u64>) -> bool
 }
 
 // A packet that carries a frame.
-pub(crate) fn check(headers: &AllHeaders, counted: Counted, packet: &[u8]) -> Result<(), PacketFault>
+pub(crate) fn check(
+    headers: &AllHeaders,
+    counted: Counted,
+    packet: &[u8],
+) -> Result<(), PacketFault>
     requires key { counted.key ≡ is_key packet.now }
     ensures said { OnOk result (frame_step (header_of headers.now.ident.header) (contents headers.now.setup.header) counted packet.now ≡ Ok (said_of (Headers.All headers.now))) }
     ensures fault { IfErr result (λ fault. frame_step (header_of headers.now.ident.header) (contents headers.now.setup.header) counted packet.now ≡ Err fault) }

@@ -6,7 +6,7 @@ ghost use Rattle.src_index.specs.Said.{shift_of};
 ghost use Rattle.src_index.specs.Checks.{said_step};
 ghost use Rattle.src_index.specs.Headers.{packets_before, packets_in, said_before, said_of};
 
-use crate::headers::{AllHeaders, Heads, Headers, IdentHeader, SetupHeader};
+use crate::headers::{AllHeaders, Headers, Heads, IdentHeader, SetupHeader};
 use std::alloc::Global;
 use thr_ident::{read_comment, read_ident};
 use thr_setup::read_setup;

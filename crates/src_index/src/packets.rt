@@ -11,7 +11,7 @@ ghost use Rattle.src_index.specs.Refusing.{RefusesAs, RefusesPacket};
 
 use crate::fault::{Fault, Refusal};
 use crate::frames::{MOST_BYTES, MOST_PACKETS, check, quantiser_behind};
-use crate::headers::{AllHeaders, Heads, Headers};
+use crate::headers::{AllHeaders, Headers, Heads};
 use crate::heading::with_header;
 use crate::pages::Pages;
 use ogg_link::{Counted, Progress};
@@ -109,11 +109,7 @@ impl Packets {
     }
 
     // The frame that was begun has ended, behind all headers. Its buffer serves the next.
-    fn end_frame(
-        &mut self,
-        counted: Counted,
-        headers: AllHeaders,
-    ) -> Result<(), vid_base::Refusal>
+    fn end_frame(&mut self, counted: Counted, headers: AllHeaders) -> Result<(), vid_base::Refusal>
         requires key { counted.key ≡ is_key self.old.begun.items }
         requires few { vec_len self.old.frames < 2 ^ 24 }
         ensures said { OnOk result (said_step (said_of (Headers.All headers)) counted self.old.begun.items ≡ Ok (said_of self.new.headers)) }
