@@ -1,0 +1,5 @@
+pub mod MotionLemmas
+pub mod KindLemmas
+pub mod PlaceLemmas
+pub mod ClearLemmas
+pub mod BlankLemmas

@@ -1,0 +1,9 @@
+pub mod FrameHead
+pub mod QuantiserPlaces
+pub mod CodedFrame
+pub mod Kinds
+pub mod Parsed
+pub mod Views
+pub mod Work
+pub mod Rebuilt
+pub mod Step
