@@ -1,7 +1,7 @@
 -- A judged file has faultless packets: the checks of its pages are those of its packets one after the other. Writers of a source's packets cite these.
-use Rattle.std.proofs.Common.{◌≡◌, ℕ, min, ◌+◌, ◌-◌, ◌^◌, ◌%◌, ◌<◌, ◌≤◌, ◌&&◌, Bool, true, false, List, [], ◌∷◌, ◌++◌, length, length-append, length-take, length-drop, take, drop, sum, map, get_or, Option, Some, None, Result, Ok, Err, IsOk, is_ok, All, nat_lt, if◌then◌else◌, refl, ap, sym, subst, ◌∙◌, arith}
+use Rattle.std.proofs.Common.{◌≡◌, ℕ, zero, suc, min, ◌+◌, ◌-◌, ◌^◌, ◌%◌, ◌<◌, ◌≤◌, ◌&&◌, Bool, true, false, List, [], ◌∷◌, ◌++◌, length, length-append, length-take, length-drop, take, drop, sum, map, get_or, Option, Some, None, Result, Ok, Err, IsOk, is_ok, is_some, All, nat_lt, if◌then◌else◌, refl, ap, sym, subst, ◌∙◌, arith}
 use Rattle.std.proofs.lemmas.Bool.{lt-ltb}
-use Rattle.std.proofs.lemmas.List.{append-nil, append_assoc}
+use Rattle.std.proofs.lemmas.List.{append-nil, append_assoc, get_or-drop}
 use Rattle.std.proofs.lemmas.List.Elements.{All-nil, All-cons}
 use Rattle.vid_base.specs.Reading.{◌>>=◌, and_then}
 use Rattle.ogg_page.specs.Page.{Page, page_at_front, bytes_of_page, lacing_of, body_of}
@@ -12,7 +12,7 @@ use Rattle.ogg_link.specs.declared.state.State.{State}
 use Rattle.ogg_link.specs.declared.state.Progress.{Progress}
 use Rattle.ogg_link.specs.declared.fault.LinkFault.{LinkFault}
 use Rattle.ogg_link.specs.Progress.{counted, key_after, one_more, after_pieces, last_key_among, Holds}
-use Rattle.ogg_link.specs.Walk.{start, step, ended, is_of_track}
+use Rattle.ogg_link.specs.Walk.{start, step as walk_step, ended, is_of_track}
 use Rattle.ogg_link.specs.Granules.{settled}
 use Rattle.ogg_link.proofs.StepLemmas.{start_holds, progress_behind, walk_holds, track_go_on}
 use Rattle.ogg_link.proofs.KeyLemmas.{last_key_of_packets}
@@ -22,16 +22,21 @@ use Rattle.thr_ident.specs.Header.{Header}
 use Rattle.thr_ident.specs.Ident.{ident_of}
 use Rattle.thr_ident.specs.Comment.{comment_of}
 use Rattle.thr_setup.specs.Setup.{Contents, setup_of}
+use Rattle.thr_ident.specs.Shape.{shape_of}
+use Rattle.thr_frame.specs.CodedFrame.{CodedFrame}
+use Rattle.thr_frame.specs.Parsed.{frame_in}
+use Rattle.thr_frame.specs.Rebuilt.{Pair}
+use Rattle.thr_frame.specs.Step.{step, state_after, next_state}
 use Rattle.src_index.specs.declared.fault.Fault.{Fault}
 use Rattle.src_index.specs.declared.fault.Fault.TheVariants.{InLink}
 use Rattle.src_index.specs.Said.{Said, Start, WithIdent, WithComment, WithSetup, shift_of}
 use Rattle.src_index.specs.Spacing.{AreSpaced}
-use Rattle.src_index.specs.Track.{frames_of, packet_at}
+use Rattle.src_index.specs.Track.{frames_of, frame_at, packet_at}
 use Rattle.src_index.specs.Quantiser.{quantiser_behind, quantisers}
-use Rattle.src_index.specs.Checks.{packet_step, packets_over, page_over, fault_at, said_step, is_near, AreFaultless}
+use Rattle.src_index.specs.Checks.{packet_step, packets_over, page_over, fault_at, said_step, is_near, most_packets, AreFaultless}
 use Rattle.src_index.specs.Holding.{IsSpaced}
 use Rattle.src_index.specs.Judge.{Before, nothing, track_pieces, packets_on, page_checks, pieces_over, with_pieces, in_link, end_check, end_verdict, verdict_here, failing, front_checks, Judges, Judged, Verdict}
-use Rattle.src_index.proofs.CheckLemmas.{bind_ok, and_then_ok, step_passed, frame_leaves, frame_near, page_packets}
+use Rattle.src_index.proofs.CheckLemmas.{bind_ok, and_then_ok, step_passed, frame_leaves, frame_near, frame_says, page_packets}
 use Rattle.src_index.proofs.LetterLemmas.{ok_value}
 use Rattle.src_index.proofs.SpacingLemmas.{spaced_more, nothing_spaced}
 
@@ -92,7 +97,7 @@ record Passed (before next : Before) (at : ℕ) (page : Page) : Type 0 where
   walk : State
   said : Said
   settles : State
-  stepped : step before.walk page ≡ Ok walk
+  stepped : walk_step before.walk page ≡ Ok walk
   over : pieces_over before at (track_pieces before.walk page) ≡ Ok said
   settled_is : settled walk (shift_of said) ≡ Ok settles
   next_is : with_pieces before (track_pieces before.walk page) said settles ≡ next
@@ -105,14 +110,14 @@ checks_passed : (before next : Before) (at : ℕ) (page : Page) → page_checks 
 unfolding page_checks
 checks_passed before next at page h =
     let pieces : List Piece = track_pieces before.walk page in
-    let one = bind_ok (in_link at (step before.walk page)) (λ walk. pieces_over before at pieces >>= (λ said. in_link at (settled walk (shift_of said)) >>= (λ settles. Ok (with_pieces before pieces said settles)))) next h in
+    let one = bind_ok (in_link at (walk_step before.walk page)) (λ walk. pieces_over before at pieces >>= (λ said. in_link at (settled walk (shift_of said)) >>= (λ settles. Ok (with_pieces before pieces said settles)))) next h in
     let two = bind_ok (pieces_over before at pieces) (λ said. in_link at (settled one.0 (shift_of said)) >>= (λ settles. Ok (with_pieces before pieces said settles))) next one.2 in
     let three = bind_ok (in_link at (settled one.0 (shift_of two.0))) (λ settles. Ok (with_pieces before pieces two.0 settles)) next two.2 in
     record {
       walk = one.0;
       said = two.0;
       settles = three.0;
-      stepped = linked at (step before.walk page) one.0 one.1;
+      stepped = linked at (walk_step before.walk page) one.0 one.1;
       over = two.1;
       settled_is = linked at (settled one.0 (shift_of two.0)) three.0 three.1;
       next_is = cc;
@@ -240,6 +245,63 @@ faultless_spaced packets header some h is =
     let same : known.header ≡ header = cc (known.ident, is) in
     subst (λ (r : Header). AreSpaced r.shift (map is_key (frames_of packets))) same
     (frames_spaced 3 None known.header known.contents known.said [] (frames_of packets) known.frames (omega arith) refl (nothing_spaced known.header.shift))
+
+-- each frame without a fault says something by itself
+frames_say : (n : ℕ) (last : Option ℕ) (header : Header) (contents : Contents) (next : Said) (frames : List (List ℕ)) → packets_over 0 n last (WithSetup header contents) frames ≡ Ok next → 3 ≤ n
+    → (i : ℕ) → i < length frames → IsOk (frame_in contents (shape_of header) (nat_lt 0 (n - 3 + i)) (get_or frames i []))
+unfolding packets_over
+frames_say n last header contents next [] h many i low = absurd (omega (arith, low))
+frames_say n last header contents next (x ∷ frames) h many i low =
+    let first = and_then_ok (packet_step (WithSetup header contents) (counted n last x) x) (λ more. packets_over 0 (one_more n) (key_after (is_key x) n last) more frames) (fault_at 0 n) next h in
+    let passes = step_passed (WithSetup header contents) first.0 (counted n last x) x first.1 in
+    let same : first.0 ≡ WithSetup header contents = frame_leaves header contents first.0 n last x passes.1 in
+    let rest : packets_over 0 (one_more n) (key_after (is_key x) n last) (WithSetup header contents) frames ≡ Ok next = ap (λ s. packets_over 0 (one_more n) (key_after (is_key x) n last) s frames) (sym same) ∙ first.2 in
+    at i low (frame_says header contents first.0 n last x passes.1) (frames_say (one_more n) (key_after (is_key x) n last) header contents next frames rest (omega (arith, many))) passes.0
+  where
+    at : (i : ℕ) → i < length (x ∷ frames) → (coded : Option CodedFrame) × (frame_in contents (shape_of header) (nat_lt 0 (n - 3)) x ≡ Ok coded)
+        → ((k : ℕ) → k < length frames → IsOk (frame_in contents (shape_of header) (nat_lt 0 (one_more n - 3 + k)) (get_or frames k []))) → n < most_packets
+        → IsOk (frame_in contents (shape_of header) (nat_lt 0 (n - 3 + i)) (get_or (x ∷ frames) i []))
+    at zero low says later few = let none : n - 3 + 0 ≡ n - 3 = omega arith in ap is_ok (ap (λ k. frame_in contents (shape_of header) (nat_lt 0 k) x) none ∙ says.1)
+    at (suc k) low says later few =
+        let up : one_more n - 3 + k ≡ n - 3 + suc k = omega (arith, many, few) in
+        subst (λ m. IsOk (frame_in contents (shape_of header) (nat_lt 0 m) (get_or frames k []))) up (later k (omega (arith, low)))
+
+pub faultless_say : (packets : List (List ℕ)) (header : Header) (contents : Contents) (n : ℕ) → 3 ≤ length packets → AreFaultless packets → ident_of (packet_at packets 0) ≡ Ok header → setup_of (packet_at packets 2) ≡ Ok contents
+    → n < length (frames_of packets) → IsOk (frame_in contents (shape_of header) (nat_lt 0 n) (frame_at packets n))
+faultless_say packets header contents n some h ident setup low =
+    let known = headed packets some h in
+    let same : known.header ≡ header = cc (known.ident, ident) in
+    let said : known.contents ≡ contents = cc (known.setup, setup) in
+    let there : get_or (drop 3 packets) n [] ≡ frame_at packets n = get_or-drop 3 packets n [] ∙ ap (λ k. get_or packets k []) (omega arith) in
+    let says : IsOk (frame_in known.contents (shape_of known.header) (nat_lt 0 (0 + n)) (get_or (frames_of packets) n [])) = frames_say 3 None known.header known.contents known.said (frames_of packets) known.frames (omega arith) n low in
+    let plain : 0 + n ≡ n = omega arith in
+    subst IsOk (λ i. frame_in (said i) (shape_of (same i)) (nat_lt 0 (plain i)) (there i)) says
+
+-- so each decodes from the state of those before it
+frames_decode : (n : ℕ) (last : Option ℕ) (header : Header) (contents : Contents) (next : Said) (state : Option Pair) (frames : List (List ℕ)) → packets_over 0 n last (WithSetup header contents) frames ≡ Ok next → 3 ≤ n
+    → nat_lt 0 (n - 3) ≡ is_some state → IsOk (state_after contents (shape_of header) state frames)
+unfolding packets_over state_after step
+frames_decode n last header contents next state [] h many began = refl
+frames_decode n last header contents next state (x ∷ frames) h many began =
+    let first = and_then_ok (packet_step (WithSetup header contents) (counted n last x) x) (λ more. packets_over 0 (one_more n) (key_after (is_key x) n last) more frames) (fault_at 0 n) next h in
+    let passes = step_passed (WithSetup header contents) first.0 (counted n last x) x first.1 in
+    let same : first.0 ≡ WithSetup header contents = frame_leaves header contents first.0 n last x passes.1 in
+    let says = frame_says header contents first.0 n last x passes.1 in
+    let read : frame_in contents (shape_of header) (is_some state) x ≡ Ok says.0 = ap (λ b. frame_in contents (shape_of header) b x) (sym began) ∙ says.1 in
+    let rest : packets_over 0 (one_more n) (key_after (is_key x) n last) (WithSetup header contents) frames ≡ Ok next = ap (λ s. packets_over 0 (one_more n) (key_after (is_key x) n last) s frames) (sym same) ∙ first.2 in
+    let state_is : Pair = next_state contents (shape_of header) state says.0 in
+    let later : IsOk (state_after contents (shape_of header) (Some state_is) frames) =
+    frames_decode (one_more n) (key_after (is_key x) n last) header contents next (Some state_is) frames rest (omega (arith, many)) (lt-ltb 0 (one_more n - 3) (omega (arith, many, passes.0))) in
+    subst (λ r. IsOk (r >>= (λ coded. Ok (next_state contents (shape_of header) state coded)) >>= (λ after. state_after contents (shape_of header) (Some after) frames))) (sym read) later
+
+pub faultless_decode : (packets : List (List ℕ)) (header : Header) (contents : Contents) → 3 ≤ length packets → AreFaultless packets → ident_of (packet_at packets 0) ≡ Ok header → setup_of (packet_at packets 2) ≡ Ok contents
+    → IsOk (state_after contents (shape_of header) None (frames_of packets))
+faultless_decode packets header contents some h ident setup =
+    let known = headed packets some h in
+    let same : known.header ≡ header = cc (known.ident, ident) in
+    let said : known.contents ≡ contents = cc (known.setup, setup) in
+    subst IsOk (λ i. state_after (said i) (shape_of (same i)) None (frames_of packets))
+    (frames_decode 3 None known.header known.contents known.said None (frames_of packets) known.frames (omega arith) refl)
 
 -- quantisers are below 64
 pub quantisers_small : (before : ℕ) (packets : List (List ℕ)) → before < 64 → All (λ q. q < 64) (quantisers before packets)

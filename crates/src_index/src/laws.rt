@@ -1,13 +1,16 @@
 //! Laws of the definitions that contracts here cite. These functions do nothing: their clauses name lemmas of `proofs/`,
 //! which the proofs of crates above cite.
-ghost use Rattle.std.specs.Prelude.{◌≡◌, ◌≤◌, ◌<◌, ◌+◌, ◌^◌, ℕ, List, All, Ok, IsOk, length, map};
+ghost use Rattle.std.specs.Prelude.{◌≡◌, ◌≤◌, ◌<◌, ◌+◌, ◌^◌, ℕ, List, All, Ok, IsOk, None, nat_lt, length, map};
 ghost use Rattle.ogg_link.specs.Track.{is_key};
 ghost use Rattle.src_index.specs.Index.{Index, frame_count, keys_of, quantisers_of};
 ghost use Rattle.thr_ident.specs.Header.{Header};
 ghost use Rattle.thr_ident.specs.Ident.{ident_of};
 ghost use Rattle.thr_ident.specs.Comment.{comment_of};
-ghost use Rattle.thr_setup.specs.Setup.{setup_of};
-ghost use Rattle.src_index.specs.Track.{frames_of, packet_at};
+ghost use Rattle.thr_setup.specs.Setup.{Contents, setup_of};
+ghost use Rattle.thr_ident.specs.Shape.{shape_of};
+ghost use Rattle.thr_frame.specs.Parsed.{frame_in};
+ghost use Rattle.thr_frame.specs.Step.{state_after};
+ghost use Rattle.src_index.specs.Track.{frames_of, frame_at, packet_at};
 ghost use Rattle.src_index.specs.Spacing.{AreSpaced};
 ghost use Rattle.src_index.specs.Checks.{AreFaultless};
 ghost use Rattle.src_index.specs.Quantiser.{quantisers};
@@ -35,5 +38,12 @@ pub fn faultless_tracks()
     ensures headers { (packets : List (List ℕ)) → 3 ≤ length packets → AreFaultless packets → IsOk (ident_of (packet_at packets 0)) × IsOk (comment_of (packet_at packets 1)) × IsOk (setup_of (packet_at packets 2)) }
     ensures spaced { (packets : List (List ℕ)) (header : Header) → 3 ≤ length packets → AreFaultless packets → ident_of (packet_at packets 0) ≡ Ok header
         → AreSpaced header.shift (map is_key (frames_of packets)) }
+    // Each frame packet says something by itself, and decodes from the state of those before it.
+    ensures frames { (packets : List (List ℕ)) (header : Header) (contents : Contents) (n : ℕ) → 3 ≤ length packets → AreFaultless packets
+        → ident_of (packet_at packets 0) ≡ Ok header → setup_of (packet_at packets 2) ≡ Ok contents
+        → n < length (frames_of packets) → IsOk (frame_in contents (shape_of header) (nat_lt 0 n) (frame_at packets n)) }
+    ensures decodes { (packets : List (List ℕ)) (header : Header) (contents : Contents) → 3 ≤ length packets → AreFaultless packets
+        → ident_of (packet_at packets 0) ≡ Ok header → setup_of (packet_at packets 2) ≡ Ok contents
+        → IsOk (state_after contents (shape_of header) None (frames_of packets)) }
     ensures quantisers { (before : ℕ) (packets : List (List ℕ)) → before < 64 → All (λ quantiser. quantiser < 64) (quantisers before packets) }
 {}

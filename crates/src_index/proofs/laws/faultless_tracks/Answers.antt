@@ -1,5 +1,5 @@
 use Rattle.std.proofs.Common.{is_ok, ap}
-use Rattle.src_index.proofs.FaultlessLemmas.{judged_faultless, headed, faultless_spaced, quantisers_small}
+use Rattle.src_index.proofs.FaultlessLemmas.{judged_faultless, headed, faultless_spaced, faultless_say, faultless_decode, quantisers_small}
 use Rattle.src_index.proofs.laws.faultless_tracks.Goals as goal
 
 pub returns-clause-faultless : goal.returns-clause-faultless
@@ -13,3 +13,9 @@ returns-clause-spaced c = faultless_spaced
 
 pub returns-clause-quantisers : goal.returns-clause-quantisers
 returns-clause-quantisers c = quantisers_small
+
+pub returns-clause-frames : goal.returns-clause-frames
+returns-clause-frames c = faultless_say
+
+pub returns-clause-decodes : goal.returns-clause-decodes
+returns-clause-decodes c = faultless_decode
