@@ -1,7 +1,6 @@
 -- What the checks of packets that passed say. Judging and laws on judged files cite these.
-use Rattle.std.proofs.Common.{◌≡◌, ℕ, ◌-◌, ◌≤◌, ◌<◌, ◌||◌, not, Bool, true, false, List, [], ◌∷◌, length, Option, Result, Ok, Err, IsOk, nat_le, nat_lt, if◌then◌else◌, inl, inr, true≢false, refl, ap, sym, ◌∙◌, arith, All, lt-ltb}
-use Rattle.std.specs.Prelude.{⊤}
-use Rattle.std.proofs.lemmas.Bool.{cases_lt, le-leb, le-ltb}
+use Rattle.std.proofs.Common.{◌≡◌, ℕ, ◌-◌, ◌≤◌, ◌<◌, ◌||◌, Bool, true, false, List, [], ◌∷◌, length, Option, Result, Ok, Err, IsOk, nat_le, nat_lt, if◌then◌else◌, inl, inr, true≢false, refl, sym, ◌∙◌, All, lt-ltb}
+use Rattle.std.proofs.lemmas.Bool.{cases_lt, le-leb}
 use Rattle.std.proofs.lemmas.List.Elements.{All-nil, All-cons}
 use Rattle.vid_base.specs.declared.fault.PacketFault.TheVariants.{TooLarge, KeyTooFar}
 use Rattle.vid_base.specs.Reading.{◌>>=◌, and_then}

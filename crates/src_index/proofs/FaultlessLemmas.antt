@@ -1,18 +1,18 @@
 -- A judged file has faultless packets: the checks of its pages are those of its packets one after the other. Writers of a source's packets cite these.
-use Rattle.std.proofs.Common.{◌≡◌, ℕ, zero, suc, min, ◌+◌, ◌-◌, ◌^◌, ◌%◌, ◌<◌, ◌≤◌, ◌&&◌, Bool, true, false, List, [], ◌∷◌, ◌++◌, length, length-append, length-take, length-drop, take, drop, sum, map, get_or, Option, Some, None, Result, Ok, Err, IsOk, is_ok, is_some, All, nat_lt, if◌then◌else◌, refl, ap, sym, subst, ◌∙◌, arith}
+use Rattle.std.proofs.Common.{◌≡◌, ℕ, zero, suc, min, ◌+◌, ◌-◌, ◌^◌, ◌%◌, ◌<◌, ◌≤◌, ◌&&◌, Bool, true, false, List, [], ◌∷◌, ◌++◌, length, length-append, length-take, length-drop, drop, sum, map, get_or, Option, Some, None, Result, Ok, Err, IsOk, is_ok, is_some, All, nat_lt, if◌then◌else◌, refl, ap, sym, subst, ◌∙◌, arith}
 use Rattle.std.proofs.lemmas.Bool.{lt-ltb}
 use Rattle.std.proofs.lemmas.List.{append-nil, append_assoc, get_or-drop}
 use Rattle.std.proofs.lemmas.List.Elements.{All-nil, All-cons}
 use Rattle.vid_base.specs.Reading.{◌>>=◌, and_then}
 use Rattle.ogg_page.specs.Page.{Page, page_at_front, bytes_of_page, lacing_of, body_of}
-use Rattle.ogg_page.specs.Packets.{Piece, packets_from, left_from}
+use Rattle.ogg_page.specs.Packets.{Piece, left_from}
 use Rattle.ogg_page.proofs.PageLemmas.{page_is}
 use Rattle.ogg_link.specs.Track.{is_key}
 use Rattle.ogg_link.specs.declared.state.State.{State}
 use Rattle.ogg_link.specs.declared.state.Progress.{Progress}
 use Rattle.ogg_link.specs.declared.fault.LinkFault.{LinkFault}
 use Rattle.ogg_link.specs.Progress.{counted, key_after, one_more, after_pieces, last_key_among, Holds}
-use Rattle.ogg_link.specs.Walk.{start, step as walk_step, ended, is_of_track}
+use Rattle.ogg_link.specs.Walk.{step as walk_step, ended, is_of_track}
 use Rattle.ogg_link.specs.Granules.{settled}
 use Rattle.ogg_link.proofs.StepLemmas.{start_holds, progress_behind, walk_holds, track_go_on}
 use Rattle.ogg_link.proofs.KeyLemmas.{last_key_of_packets}
@@ -28,12 +28,11 @@ use Rattle.thr_frame.specs.Parsed.{frame_in}
 use Rattle.thr_frame.specs.Rebuilt.{Pair}
 use Rattle.thr_frame.specs.Step.{step, state_after, next_state}
 use Rattle.src_index.specs.declared.fault.Fault.{Fault}
-use Rattle.src_index.specs.declared.fault.Fault.TheVariants.{InLink}
 use Rattle.src_index.specs.Said.{Said, Start, WithIdent, WithComment, WithSetup, shift_of}
 use Rattle.src_index.specs.Spacing.{AreSpaced}
 use Rattle.src_index.specs.Track.{frames_of, frame_at, packet_at}
-use Rattle.src_index.specs.Quantiser.{quantiser_behind, quantisers}
-use Rattle.src_index.specs.Checks.{packet_step, packets_over, page_over, fault_at, said_step, is_near, most_packets, AreFaultless}
+use Rattle.src_index.specs.Quantiser.{quantisers}
+use Rattle.src_index.specs.Checks.{packet_step, packets_over, fault_at, said_step, is_near, most_packets, AreFaultless}
 use Rattle.src_index.specs.Holding.{IsSpaced}
 use Rattle.src_index.specs.Judge.{Before, nothing, track_pieces, packets_on, page_checks, pieces_over, with_pieces, in_link, end_check, end_verdict, verdict_here, failing, front_checks, Judges, Judged, Verdict}
 use Rattle.src_index.proofs.CheckLemmas.{bind_ok, and_then_ok, step_passed, frame_leaves, frame_near, frame_says, page_packets}
