@@ -6,7 +6,7 @@ ghost use Rattle.src_index.specs.Said.{shift_of};
 ghost use Rattle.src_index.specs.Checks.{said_step};
 ghost use Rattle.src_index.specs.Headers.{packets_before, packets_in, said_before, said_of};
 
-use crate::headers::{AllHeaders, Heads, Headers, IdentHeader, SetupHeader, Whole};
+use crate::headers::{AllHeaders, Headers, Heads, IdentHeader, SetupHeader, Whole};
 use std::alloc::Global;
 use thr_frame::{Coded, Work};
 use thr_ident::{read_comment, read_ident};

@@ -11,7 +11,7 @@ ghost use Rattle.src_index.specs.Refusing.{RefusesAs, RefusesPacket};
 
 use crate::fault::{Fault, Refusal};
 use crate::frames::{MOST_BYTES, MOST_PACKETS, quantiser_behind};
-use crate::headers::{Heads, Headers, Whole};
+use crate::headers::{Headers, Heads, Whole};
 use crate::heading::with_header;
 use crate::pages::Pages;
 use ogg_link::{Counted, Progress};
@@ -33,6 +33,7 @@ pub(crate) struct Frame {
     pub(crate) segment: u8,
     pub(crate) key: bool,
     pub(crate) quantiser: u8,
+    ghost small: { quantiser < 64 },
 }
 
 /// The packets of a track so far. How many they are, and which is the last key frame, the walk knows.
