@@ -56,7 +56,7 @@ fn run<D: Desk>(alloc: Global, desk: &mut D, command: Command) -> Result<(), Sta
 
 /// Does what the words say, over the desk's inputs, outputs and text, and tells how it ended.
 ///
-/// `check FILE` judges a file on the heads of its frames. The order of refusals is: the words; the file that is not there;
+/// `check FILE` judges a file. The order of refusals is: the words; the file that is not there;
 /// a file of more than 2^40 bytes; the first check that fails. It says a line for the file's link, and whether the file is
 /// seekable.
 ///

@@ -129,13 +129,13 @@ fn refused(rt: &(impl Abort + AllocGlobal), case: &Case, link: &str, line: &str)
 }
 
 // A file of one frame that departs from the well-formed one: changes of its headers, the flags of their second page, the
-// third page's flags, sequence number and granule position, and bits of the frame's first byte.
+// third page's flags, sequence number and granule position, and bits of a byte of the frame.
 #[derive(Clone, Copy)]
 struct Case<'a> {
     changes: &'a [(u8, usize, u8)],
     flags: u8,
     page: (u8, u32, u64),
-    frame: u8,
+    frame: (usize, u8),
     line: &'a str,
 }
 
@@ -143,7 +143,7 @@ const WHOLE: Case = Case {
     changes: &[],
     flags: 0,
     page: (4, 2, 64),
-    frame: 0,
+    frame: (0, 0),
     line: "link 1 picture 16x16 coded 16x16 pixels 420 rate 25:1 frames 1 keys 1\nseekable yes\n",
 };
 
@@ -151,7 +151,8 @@ fn file_of(rt: &(impl Abort + AllocGlobal), case: &Case) -> Vec<u8> {
     let mut file = headers(rt, case.changes, case.flags);
     let (flags, number, granule) = case.page;
     let mut frame = KEY;
-    change(&mut frame, 0, case.frame);
+    let (at, bits) = case.frame;
+    change(&mut frame, at, bits);
     add(rt, &mut file, flags, number, granule, &[5], &frame);
     file
 }
@@ -185,7 +186,11 @@ fn each_fault_of_a_packet_is_said_with_its_number(rt: HostRuntime) {
     for (changes, line) in headers {
         refused(&rt, &Case { changes, ..WHOLE }, "link 1 ", line);
     }
-    for (frame, line) in [(0x40, "packet 3 FirstNotKey"), (0x80, "packet 3 NotData")] {
+    for (frame, line) in [
+        ((0, 0x40), "packet 3 FirstNotKey"),
+        ((0, 0x80), "packet 3 NotData"),
+        ((1, 0x10), "packet 3 Reserved"),
+    ] {
         refused(&rt, &Case { frame, ..WHOLE }, "link 1 ", line);
     }
 }
@@ -323,9 +328,11 @@ fn a_read_that_fails_in_mid_file_is_told(rt: HostRuntime) {
     let mut file = headers(&rt, &[], 0);
     let mut lacing = [255u8; 255];
     lacing[254] = 230;
-    let Ok(frame) = Vec::from_elem(rt.alloc(), KEY[0], 65_000) else {
+    let Ok(mut frame) = Vec::from_elem(rt.alloc(), 0u8, 65_000) else {
         panic!(&rt; "there is no frame")
     };
+    assert!(rt; frame.len() == 65_000);
+    frame[..5].copy_from_slice(&KEY);
     add(&rt, &mut file, 4, 2, 64, &lacing, &frame);
     for (call, status, line) in [
         (2, 8, "fault 8 read\n"),

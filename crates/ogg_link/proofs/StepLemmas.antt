@@ -107,7 +107,7 @@ progress_behind state next page ok =
 pub start_holds : Holds start.progress []
 start_holds = record { whole = λ _. refl; begun = λ e. absurd (true≢false (sym e)); key = λ e. absurd (true≢false (sym e)) }
 
-track_go_on : (track : Bool) (lacing body : List ℕ) → sum lacing ≡ length body → GoOn (segments (lacing_if track lacing) body)
+pub track_go_on : (track : Bool) (lacing body : List ℕ) → sum lacing ≡ length body → GoOn (segments (lacing_if track lacing) body)
 unfolding segments GoOn
 track_go_on true lacing body shape = segments_go_on lacing body shape
 track_go_on false lacing body shape = tt

@@ -1,7 +1,8 @@
 pub mod VerdictLemmas
 pub mod CheckLemmas
-mod SpacingLemmas
 mod PieceLemmas
+pub mod SpacingLemmas
+pub mod FaultlessLemmas
 mod PagesLemmas
 mod AheadLemmas
 mod LetterLemmas

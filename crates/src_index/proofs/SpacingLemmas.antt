@@ -1,21 +1,19 @@
 -- Key frames stay spaced with one more, and what is kept stays as many as are counted. Judging packet after packet cites these.
-use Rattle.std.proofs.Common.{◌≡◌, ℕ, min, ◌+◌, ◌-◌, ◌^◌, ◌<◌, ◌≤◌, ◌||◌, ◌&&◌, not, Bool, true, false, List, [], ◌∷◌, ◌++◌, length, length-append, map, Option, Some, None, Result, Ok, Err, nat_lt, nat_le, if◌then◌else◌, inl, inr, refl, ap, sym, subst, ◌∙◌, arith, true≢false, lt-ltb}
+use Rattle.std.proofs.Common.{◌≡◌, ℕ, ◌+◌, ◌-◌, ◌^◌, ◌<◌, ◌≤◌, ◌&&◌, Bool, true, false, List, [], ◌∷◌, ◌++◌, length, length-append, map, Option, Some, None, Ok, nat_lt, if◌then◌else◌, inl, inr, refl, ap, sym, subst, ◌∙◌, arith, true≢false, lt-ltb}
 use Rattle.std.proofs.lemmas.Bool.{cases_lt, le-ltb, ltb-true}
 use Rattle.std.proofs.lemmas.List.{map-append, nil_from_length, length-map}
 use Rattle.std.proofs.lemmas.Nat.{pow_pos}
-use Rattle.vid_base.specs.declared.fault.PacketFault.TheVariants.{TooLarge, KeyTooFar, NotData, FirstNotKey}
-use Rattle.vid_base.specs.Reading.{◌>>=◌}
 use Rattle.ogg_link.specs.Track.{is_key}
 use Rattle.ogg_link.specs.Progress.{counted, key_after, one_more}
 use Rattle.thr_ident.specs.Header.{Header}
 use Rattle.thr_setup.specs.Setup.{Contents}
 use Rattle.src_index.specs.Said.{Said, Start, WithIdent, WithComment, WithSetup, shift_of, said_count}
-use Rattle.src_index.specs.Spacing.{behind, gap, Close, BeginsWithKey, AreSpaced}
-use Rattle.src_index.specs.Checks.{packet_step, said_step, frame_step, frame_check, frame_of, is_data, is_near, is_too_large, most_packets}
+use Rattle.src_index.specs.Spacing.{behind, gap, Close, BeginsWithKey}
+use Rattle.src_index.specs.Checks.{packet_step, frame_step, is_near, most_packets}
 use Rattle.src_index.specs.Index.{Frame}
 use Rattle.src_index.specs.Kept.{Kept, with_end, with_header, with_frame, frame_from}
-use Rattle.src_index.specs.Holding.{IsSpaced, IsTallied, last_of}
-use Rattle.src_index.proofs.CheckLemmas.{frame_leaves, frame_passed, step_passed}
+use Rattle.src_index.specs.Holding.{IsSpaced, IsTallied}
+use Rattle.src_index.proofs.CheckLemmas.{frame_leaves, frame_near, step_passed}
 
 -- a frame more
 close_more : (shift distance : ℕ) (keys : List Bool) (key : Bool) → Close shift distance keys → behind (gap distance keys) key < 2 ^ shift → Close shift distance (keys ++ key ∷ [])
@@ -33,16 +31,23 @@ unfolding BeginsWithKey
 first_more [] key h first = first refl
 first_more (k ∷ keys) key h first = h
 
-pub spaced_more : (shift count : ℕ) (last : Option ℕ) (keys : List Bool) (key : Bool) → IsSpaced shift count last keys → (length keys ≡ 0 → key ≡ true) → is_near shift count (if key then Some count else last) ≡ true
+-- the first frame has no key frame before it
+key_first : (shift count : ℕ) (last : Option ℕ) (key : Bool) → last ≡ None → is_near shift count (if key then Some count else last) ≡ true → key ≡ true
+key_first shift count last true none near = refl
+key_first shift count last false none near = absurd (true≢false (sym near ∙ ap (is_near shift count) none))
+
+pub spaced_more : (shift count : ℕ) (last : Option ℕ) (keys : List Bool) (key : Bool) → IsSpaced shift count last keys → length keys ≡ count → is_near shift count (if key then Some count else last) ≡ true
     → IsSpaced shift (count + 1) (if key then Some count else last) (keys ++ key ∷ [])
-spaced_more shift count last keys true h first near = record {
-  spaced = record { first = first_more keys true h.spaced.first first; close = close_more shift 0 keys true h.spaced.close (pow_pos shift) };
+spaced_more shift count last keys true h many near = record {
+  spaced = record { first = first_more keys true h.spaced.first (λ _. refl); close = close_more shift 0 keys true h.spaced.close (pow_pos shift) };
+  none = λ zero. absurd (omega (arith, zero));
   before = omega arith;
   behind = omega (arith, gap_more 0 keys true);
 }
-spaced_more shift count None keys false h first near = absurd (true≢false (sym near))
-spaced_more shift count (Some k) keys false h first near = record {
-  spaced = record { first = first_more keys false h.spaced.first first; close = close_more shift 0 keys false h.spaced.close (omega (arith, h.behind, ltb-true (count - k) (2 ^ shift) near)) };
+spaced_more shift count None keys false h many near = absurd (true≢false (sym near))
+spaced_more shift count (Some k) keys false h many near = record {
+  spaced = record { first = first_more keys false h.spaced.first (λ e. key_first shift count (Some k) false (h.none (omega (arith, e, many))) near); close = close_more shift 0 keys false h.spaced.close (omega (arith, h.behind, ltb-true (count - k) (2 ^ shift) near)) };
+  none = λ zero. absurd (omega (arith, zero));
   before = omega (arith, h.before);
   behind = omega (arith, gap_more 0 keys false, h.behind, h.before);
 }
@@ -68,7 +73,7 @@ tallied_header number shift next last kept t few =
     let low : number < 3 = omega (arith, t.all, none, few) in
     let same : key_after (is_key kept.begun) number last ≡ last = ap (λ b. if b then Some (number - 3) else last) (and_false (is_key kept.begun) (nat_lt 2 number) (le-ltb 2 number (omega (arith, low)))) in
     let ended : with_end kept ≡ with_header kept = ap (λ b. if b then with_header kept else with_frame kept) (lt-ltb (length kept.headers) 3 few) in
-    let empty : IsSpaced next 0 last [] = record { spaced = record { first = tt; close = tt }; before = omega (arith, t.spaced.before, none); behind = omega arith } in
+    let empty : IsSpaced next 0 last [] = record { spaced = record { first = tt; close = tt }; none = λ _. t.spaced.none none; before = omega (arith, t.spaced.before, none); behind = omega arith } in
     subst (λ k. IsTallied (one_more number) k next (with_end kept)) (sym same) (subst (IsTallied (one_more number) last next) (sym ended) (record {
       all = omega (arith, t.all, low, length-append kept.headers (kept.begun ∷ []));
       headers_first = λ some. absurd (omega (arith, some, none));
@@ -87,10 +92,9 @@ tallied_frame number last kept header contents t three few h =
     let count : number - 3 ≡ length kept.frames = omega (arith, t.all, three) in
     let there : nat_lt 2 number ≡ true = lt-ltb 2 number (omega (arith, t.all, three)) in
     let last_is : key_after key number last ≡ (if key then Some (length kept.frames) else last) = after key number (length kept.frames) last there count in
-    let passed = frame_passed header contents number last kept.begun h in
-    let first : length keys ≡ 0 → key ≡ true = λ none. passed.0 (omega (arith, none, length-map kept.frames (λ (f : Frame). f.key), t.all, three)) in
-    let near : is_near shift (length kept.frames) (if key then Some (length kept.frames) else last) ≡ true = sym (λ i. is_near shift (count i) (last_is i)) ∙ passed.1 in
-    let more = spaced_more shift (length kept.frames) last keys key t.spaced first near in
+    let many : length keys ≡ length kept.frames = length-map kept.frames (λ (f : Frame). f.key) in
+    let near : is_near shift (length kept.frames) (if key then Some (length kept.frames) else last) ≡ true = sym (λ i. is_near shift (count i) (last_is i)) ∙ frame_near header contents number last kept.begun h in
+    let more = spaced_more shift (length kept.frames) last keys key t.spaced many near in
     let longer : length (kept.frames ++ frame_from kept ∷ []) ≡ length kept.frames + 1 = length-append kept.frames (frame_from kept ∷ []) in
     let marks : keys ++ key ∷ [] ≡ map (λ (f : Frame). f.key) (kept.frames ++ frame_from kept ∷ []) = sym (map-append (λ (f : Frame). f.key) kept.frames (frame_from kept ∷ [])) in
     subst (IsTallied (one_more number) (key_after key number last) shift) (sym ended) (record {
@@ -120,16 +124,19 @@ tallied_more (WithSetup header contents) next number last kept count h t =
     setup_stays : (header : Header) (contents : Contents) (next : Said) (number : ℕ) (last : Option ℕ) (packet : List ℕ) → frame_step header contents (counted number last packet) packet ≡ Ok next → next ≡ WithSetup header contents
     setup_stays header contents next number last packet h = frame_leaves header contents next number last packet h
 
+-- no frames are spaced
+pub nothing_spaced : (shift : ℕ) → IsSpaced shift 0 None []
+unfolding Close gap BeginsWithKey
+nothing_spaced shift = record { spaced = record { first = tt; close = tt }; none = λ _. refl; before = omega arith; behind = omega arith }
+
 -- before the first packet nothing is kept
 pub nothing_tallied : (shift : ℕ) (kept : Kept) → kept.headers ≡ [] → kept.frames ≡ [] → IsTallied 0 None shift kept
-unfolding Close gap BeginsWithKey
 nothing_tallied shift kept headers frames =
     let none : length kept.frames ≡ 0 = ap length frames in
-    let empty : IsSpaced shift 0 None [] = record { spaced = record { first = tt; close = tt }; before = omega arith; behind = omega arith } in
     record {
       all = omega (arith, none, ap length headers);
       headers_first = λ some. absurd (omega (arith, some, none));
-      spaced = subst (λ (fs : List Frame). IsSpaced shift (length fs) None (map (λ (f : Frame). f.key) fs)) (sym frames) empty;
+      spaced = subst (λ (fs : List Frame). IsSpaced shift (length fs) None (map (λ (f : Frame). f.key) fs)) (sym frames) (nothing_spaced shift);
     }
 
 -- where three packets have ended, all headers have

@@ -1,7 +1,7 @@
 -- The checks of a track's packets in their order: limits, three headers, and frames (Theora I, 6, 7.1 and A.2.3; limits own).
-use Rattle.std.specs.Prelude.{ℕ, ◌+◌, ◌-◌, ◌^◌, ⊤, Bool, true, false, not, ◌||◌, ◌&&◌, List, [], ◌∷◌, length, Option, Some, None, Result, Ok, Err, IsOk, nat_le, nat_lt, if◌then◌else◌}
+use Rattle.std.specs.Prelude.{ℕ, ◌+◌, ◌-◌, ◌^◌, Bool, false, ◌||◌, List, [], ◌∷◌, length, Option, Some, None, Result, Ok, Err, IsOk, nat_le, nat_lt, if◌then◌else◌}
 use Rattle.vid_base.specs.declared.fault.PacketFault.{PacketFault}
-use Rattle.vid_base.specs.declared.fault.PacketFault.TheVariants.{NotData, FirstNotKey, KeyTooFar, TooLarge}
+use Rattle.vid_base.specs.declared.fault.PacketFault.TheVariants.{KeyTooFar, TooLarge}
 use Rattle.vid_base.specs.Reading.{◌>>=◌, and_then}
 use Rattle.ogg_page.specs.Packets.{Piece, packets_from, left_from}
 use Rattle.ogg_link.specs.Track.{headers, is_key}
@@ -10,10 +10,12 @@ use Rattle.ogg_link.specs.declared.state.Progress.{Progress}
 use Rattle.ogg_link.specs.Progress.{one_more, counted, key_after, after_pieces}
 use Rattle.thr_ident.specs.Header.{Header}
 use Rattle.thr_ident.specs.Ident.{ident_of}
+use Rattle.thr_ident.specs.Shape.{shape_of}
 use Rattle.thr_ident.specs.Comment.{comment_of}
 use Rattle.thr_setup.specs.Setup.{Contents, setup_of}
 use Rattle.src_index.specs.declared.fault.Fault.{Fault}
 use Rattle.src_index.specs.declared.fault.Fault.TheVariants.{InPacket}
+use Rattle.thr_frame.specs.Parsed.{frame_in}
 use Rattle.src_index.specs.Said.{Said, Start, WithIdent, WithComment, WithSetup}
 use Rattle.src_index.specs.Track.{first_link}
 
@@ -29,15 +31,6 @@ most_packets = headers + 2 ^ 24
 abbrev pub is_too_large : ℕ → List ℕ → Bool
 is_too_large before packet = nat_lt most_bytes (length packet) || nat_le most_packets before
 
--- the first bit of a packet, where it has one, is 0: that of a data packet
-abbrev pub is_data : List ℕ → Bool
-is_data [] = true
-is_data (byte ∷ bytes) = nat_lt byte 128
-
--- a frame packet alone, where a frame came before it or not
-abbrev pub frame_check : Bool → List ℕ → Result ⊤ PacketFault
-frame_check started packet = if not (is_data packet) then Err NotData else if not started && not (is_key packet) then Err FirstNotKey else Ok tt
-
 -- the number of the frame that a packet carries
 abbrev pub frame_of : Counted → ℕ
 frame_of counted = counted.number - headers
@@ -47,10 +40,10 @@ abbrev pub is_near : ℕ → ℕ → Option ℕ → Bool
 is_near shift frame None = false
 is_near shift frame (Some key) = nat_lt (frame - key) (2 ^ shift)
 
--- a packet that carries a frame
+-- a packet that carries a frame: what it says by itself, behind a frame or not, and how far its key frame is
 abbrev pub frame_step : Header → Contents → Counted → List ℕ → Result Said PacketFault
 frame_step header contents counted packet =
-    frame_check (nat_lt 0 (frame_of counted)) packet >>= (λ checked.
+    frame_in contents (shape_of header) (nat_lt 0 (frame_of counted)) packet >>= (λ coded.
     if is_near header.shift (frame_of counted) counted.last_key then Ok (WithSetup header contents) else Err KeyTooFar)
 
 -- what is said with one packet more, by its kind

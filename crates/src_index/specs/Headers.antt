@@ -15,7 +15,7 @@ packets_before (Second ident comment) = ident.packet.items ∷ comment.items ∷
 
 abbrev pub packets_in : Headers → List (List ℕ)
 packets_in (Begun heads) = packets_before heads
-packets_in (All headers) = headers.ident.packet.items ∷ headers.comment.items ∷ headers.setup.packet.items ∷ []
+packets_in (All whole) = whole.headers.ident.packet.items ∷ whole.headers.comment.items ∷ whole.headers.setup.packet.items ∷ []
 
 abbrev pub said_before : Heads → Said
 said_before Nothing = Start
@@ -24,4 +24,4 @@ said_before (Second ident comment) = WithComment (header_of ident.header)
 
 abbrev pub said_of : Headers → Said
 said_of (Begun heads) = said_before heads
-said_of (All headers) = WithSetup (header_of headers.ident.header) (contents headers.setup.header)
+said_of (All whole) = WithSetup (header_of whole.headers.ident.header) (contents whole.headers.setup.header)

@@ -1,5 +1,5 @@
 -- What the packets so far keep, as lists (private).
-use Rattle.std.specs.Prelude.{◌≡◌, ◌+◌, ◌-◌, ◌<◌, ◌≤◌, ℕ, Bool, List, Option, Some, None, map, length, vec_len}
+use Rattle.std.specs.Prelude.{◌≡◌, ◌+◌, ◌-◌, ◌<◌, ◌≤◌, ℕ, Bool, List, Option, Some, None, map, length}
 use Rattle.ogg_link.specs.declared.state.Progress.{Progress}
 use Rattle.src_index.specs.declared.packets.Packets.{Packets}
 use Rattle.src_index.specs.declared.packets.Place.{Place}
@@ -35,6 +35,7 @@ last_of (Some key) = key
 -- so many frames with these key marks are spaced, and this is the last key frame among them
 pub record IsSpaced (shift count : ℕ) (last_key : Option ℕ) (keys : List Bool) : Type 0 where
   pub spaced : AreSpaced shift keys
+  pub none : count ≡ 0 → last_key ≡ None
   pub before : last_of last_key ≤ count
   pub behind : gap 0 keys ≡ count - last_of last_key
 

@@ -1,14 +1,14 @@
 // The packets of frames (Theora I, 7.1 and A.2.3).
-ghost use Rattle.std.specs.Prelude.{◌≡◌, ◌<◌, ◌≤◌, ◌^◌, IfOk, IfErr, OnOk, Ok, Err};
-ghost use Rattle.ogg_link.specs.Track.{headers, is_key};
-ghost use Rattle.src_index.specs.Checks.{is_data as is_data_packet, frame_check, frame_step, frame_of, is_near as is_near_in, most_packets};
-ghost use Rattle.src_index.specs.Quantiser.{quantiser_behind as quantiser_of};
+ghost use Rattle.std.specs.Prelude.{◌≡◌, ◌<◌, ◌^◌, IfErr, OnOk, Ok, Err};
 ghost use Rattle.thr_ident.specs.Ident.{header_of};
 ghost use Rattle.thr_setup.specs.Setup.{contents};
-ghost use Rattle.src_index.specs.Headers.{said_of};
+ghost use Rattle.src_index.specs.Said.{WithSetup};
+ghost use Rattle.src_index.specs.Checks.{frame_step, is_near as is_near_in};
+ghost use Rattle.src_index.specs.Quantiser.{quantiser_behind as quantiser_of};
 
-use crate::headers::{AllHeaders, Headers};
+use crate::headers::Whole;
 use ogg_link::Counted;
+use thr_frame::check_blank;
 use vid_base::PacketFault;
 
 /// How many packets precede the frames.
@@ -32,31 +32,6 @@ pub(crate) fn quantiser_behind(before: u8, packet: &[u8]) -> u8
     }
 }
 
-// Whether the first bit of a packet, where it has one, is that of a data packet.
-fn is_data(packet: &[u8]) -> bool
-    ensures { result ≡ is_data_packet packet.now }
-{
-    match packet.first() {
-        Some(byte) => *byte < 128,
-        None => true,
-    }
-}
-
-// The check of a frame packet alone, where a frame came before it or not.
-fn check_frame(packet: &[u8], key: bool, started: bool) -> Result<(), PacketFault>
-    requires { key ≡ is_key packet.now }
-    ensures passed { OnOk result (frame_check started packet.now ≡ Ok tt) }
-    ensures fault { IfErr result (λ fault. frame_check started packet.now ≡ Err fault) }
-{
-    if !is_data(packet) {
-        return Err(PacketFault::NotData);
-    }
-    if !started && !key {
-        return Err(PacketFault::FirstNotKey);
-    }
-    Ok(())
-}
-
 // Whether a granule position can count a frame behind its last key frame.
 fn is_near(shift: u8, frame: u64, last_key: Option<u64>) -> bool
     requires { shift < 2 ^ 5 }
@@ -68,17 +43,29 @@ fn is_near(shift: u8, frame: u64, last_key: Option<u64>) -> bool
     }
 }
 
-// A packet that carries a frame.
-pub(crate) fn check(headers: &AllHeaders, counted: Counted, packet: &[u8]) -> Result<(), PacketFault>
-    requires key { counted.key ≡ is_key packet.now }
-    ensures said { OnOk result (frame_step (header_of headers.now.ident.header) (contents headers.now.setup.header) counted packet.now ≡ Ok (said_of (Headers.All headers.now))) }
-    ensures fault { IfErr result (λ fault. frame_step (header_of headers.now.ident.header) (contents headers.now.setup.header) counted packet.now ≡ Err fault) }
-{
-    let frame = counted.number.saturating_sub(HEADERS);
-    check_frame(packet, counted.key, frame > 0)?;
-    if is_near(headers.ident.header.shift, frame, counted.last_key) {
-        Ok(())
-    } else {
-        Err(PacketFault::KeyTooFar)
+impl Whole {
+    // A packet that carries a frame: it is parsed, and no picture is made of it.
+    #[tactic(auto, using(crate::proofs::CheckLemmas::behind_ok))]
+    pub(crate) fn check(&mut self, counted: Counted, packet: &[u8]) -> Result<(), PacketFault>
+        ensures headers { self.new.headers ≡ self.old.headers }
+        ensures said { OnOk result (frame_step (header_of self.old.headers.ident.header) (contents self.old.headers.setup.header) counted packet.now
+            ≡ Ok (WithSetup (header_of self.old.headers.ident.header) (contents self.old.headers.setup.header))) }
+        ensures fault { IfErr result (λ fault. frame_step (header_of self.old.headers.ident.header) (contents self.old.headers.setup.header) counted packet.now ≡ Err fault) }
+    {
+        let frame = counted.number.saturating_sub(HEADERS);
+        let setup = &self.headers.setup;
+        check_blank(
+            &self.geom,
+            &setup.header,
+            packet,
+            frame > 0,
+            &mut self.coded,
+            &mut self.work,
+        )?;
+        if is_near(self.headers.ident.header.shift, frame, counted.last_key) {
+            Ok(())
+        } else {
+            Err(PacketFault::KeyTooFar)
+        }
     }
 }

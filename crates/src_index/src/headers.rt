@@ -4,9 +4,15 @@ ghost use Rattle.std.specs.Coded.{codes};
 ghost use Rattle.thr_huff.specs.TreeCode.{forest_code};
 ghost use Rattle.thr_ident.specs.Ident.{ident_of, header_of};
 ghost use Rattle.thr_setup.specs.Setup.{setup_of, contents};
+ghost use Rattle.thr_frame.specs.CodedFrame.{IsSized, frame_of};
+ghost use Rattle.thr_frame.specs.Parsed.{blank_values};
+ghost use Rattle.thr_frame.specs.Work.{IsWorkFor};
+ghost use Rattle.thr_ident.specs.Shape.{shape_of};
 
+use thr_frame::{Coded, Work};
 use thr_ident::Ident;
 use thr_setup::Setup;
+use vid_geom::Geom;
 
 /// An identification header and its packet.
 #[derive(Drop)]
@@ -40,11 +46,24 @@ pub(crate) struct AllHeaders {
     pub(crate) setup: SetupHeader,
 }
 
+/// All three headers, and the lists in which frames are parsed: they are made once, and hold zeros between frames.
+#[derive(Drop)]
+pub(crate) struct Whole {
+    pub(crate) headers: AllHeaders,
+    pub(crate) geom: Geom,
+    pub(crate) coded: Coded,
+    pub(crate) work: Work,
+    ghost shape: { geom ≡ shape_of (header_of headers.ident.header) },
+    ghost sized: { IsSized geom (frame_of coded) },
+    ghost room: { IsWorkFor geom work },
+    ghost blank: { coded.coeffs.values.items ≡ blank_values geom },
+}
+
 /// The headers that have ended.
 #[derive(Drop)]
 pub(crate) enum Headers {
     Begun(Heads),
-    All(AllHeaders),
+    All(Whole),
 }
 
 impl Headers {
@@ -60,7 +79,7 @@ impl Headers {
             Headers::Begun(Heads::Nothing) => 0,
             Headers::Begun(Heads::First(ident)) => ident.header.shift,
             Headers::Begun(Heads::Second(ident, _)) => ident.header.shift,
-            Headers::All(headers) => headers.ident.header.shift,
+            Headers::All(whole) => whole.headers.ident.header.shift,
         }
     }
 }

@@ -6,11 +6,28 @@ ghost use Rattle.src_index.specs.Said.{shift_of};
 ghost use Rattle.src_index.specs.Checks.{said_step};
 ghost use Rattle.src_index.specs.Headers.{packets_before, packets_in, said_before, said_of};
 
-use crate::headers::{AllHeaders, Heads, Headers, IdentHeader, SetupHeader};
+use crate::headers::{AllHeaders, Headers, Heads, IdentHeader, SetupHeader, Whole};
 use std::alloc::Global;
+use thr_frame::{Coded, Work};
 use thr_ident::{read_comment, read_ident};
 use thr_setup::read_setup;
-use vid_base::Refusal;
+use vid_base::{NoMem, Refusal};
+use vid_geom::Geom;
+
+// All headers, with what their frames are parsed in.
+fn whole_of(alloc: Global, headers: AllHeaders) -> Result<Whole, NoMem>
+    ensures { IfOk result (λ whole. whole.headers ≡ headers) }
+{
+    let geom = Geom::new(alloc, headers.ident.header.shape())?;
+    let coded = Coded::new(alloc, &geom)?;
+    let work = Work::new(alloc, &geom)?;
+    Ok(Whole {
+        headers,
+        geom,
+        coded,
+        work,
+    })
+}
 
 // A header more.
 pub(crate) fn with_header(alloc: Global, heads: Heads, packet: Vec<u8>) -> Result<Headers, Refusal>
@@ -30,11 +47,12 @@ pub(crate) fn with_header(alloc: Global, heads: Heads, packet: Vec<u8>) -> Resul
         Heads::Second(ident, comment) => {
             let header = read_setup(alloc, &packet)?;
             let setup = SetupHeader { header, packet };
-            Ok(Headers::All(AllHeaders {
+            let headers = AllHeaders {
                 ident,
                 comment,
                 setup,
-            }))
+            };
+            Ok(Headers::All(whole_of(alloc, headers)?))
         }
     }
 }
@@ -46,7 +64,7 @@ pub(crate) fn all_of(headers: Headers) -> Option<AllHeaders>
     ensures none { IfNone result (length (packets_in headers) < 3) }
 {
     match headers {
-        Headers::All(all) => Some(all),
+        Headers::All(whole) => Some(whole.headers),
         Headers::Begun(_) => None,
     }
 }

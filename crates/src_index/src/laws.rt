@@ -1,9 +1,18 @@
 //! Laws of the definitions that contracts here cite. These functions do nothing: their clauses name lemmas of `proofs/`,
 //! which the proofs of crates above cite.
-ghost use Rattle.std.specs.Prelude.{◌≡◌, ◌≤◌, ◌<◌, ◌+◌, ◌^◌, ℕ, List, All, Ok, length, map};
+ghost use Rattle.std.specs.Prelude.{◌≡◌, ◌≤◌, ◌<◌, ◌+◌, ◌^◌, ℕ, List, All, Ok, IsOk, None, nat_lt, length, map};
 ghost use Rattle.ogg_link.specs.Track.{is_key};
 ghost use Rattle.src_index.specs.Index.{Index, frame_count, keys_of, quantisers_of};
-ghost use Rattle.src_index.specs.Track.{frames_of};
+ghost use Rattle.thr_ident.specs.Header.{Header};
+ghost use Rattle.thr_ident.specs.Ident.{ident_of};
+ghost use Rattle.thr_ident.specs.Comment.{comment_of};
+ghost use Rattle.thr_setup.specs.Setup.{Contents, setup_of};
+ghost use Rattle.thr_ident.specs.Shape.{shape_of};
+ghost use Rattle.thr_frame.specs.Parsed.{frame_in};
+ghost use Rattle.thr_frame.specs.Step.{state_after};
+ghost use Rattle.src_index.specs.Track.{frames_of, frame_at, packet_at};
+ghost use Rattle.src_index.specs.Spacing.{AreSpaced};
+ghost use Rattle.src_index.specs.Checks.{AreFaultless};
 ghost use Rattle.src_index.specs.Quantiser.{quantisers};
 ghost use Rattle.src_index.specs.Gather.{IsIndexOf};
 ghost use Rattle.src_index.specs.Judge.{Judged, Verdict};
@@ -20,4 +29,21 @@ pub fn indexes()
     ensures keys { (bytes : List ℕ) (packets : List (List ℕ)) (index : Index) → IsIndexOf bytes packets index → keys_of index ≡ map is_key (frames_of packets) }
     ensures quantisers { (bytes : List ℕ) (packets : List (List ℕ)) (index : Index) → IsIndexOf bytes packets index → quantisers_of index ≡ quantisers 0 (frames_of packets) }
     ensures short { (bytes : List ℕ) (packets : List (List ℕ)) (index : Index) → IsIndexOf bytes packets index → All (λ packet. length packet ≤ 2 ^ 30) (frames_of packets) }
+{}
+
+/// A file that is well-formed has faultless packets: at least three headers, and frames of which the first is a key frame and
+/// each stands less than 2^shift behind its key frame. Quantisers are below 64.
+pub fn faultless_tracks()
+    ensures faultless { (bytes : List ℕ) (packets : List (List ℕ)) → Judged bytes (Ok packets) → (3 ≤ length packets) × AreFaultless packets }
+    ensures headers { (packets : List (List ℕ)) → 3 ≤ length packets → AreFaultless packets → IsOk (ident_of (packet_at packets 0)) × IsOk (comment_of (packet_at packets 1)) × IsOk (setup_of (packet_at packets 2)) }
+    ensures spaced { (packets : List (List ℕ)) (header : Header) → 3 ≤ length packets → AreFaultless packets → ident_of (packet_at packets 0) ≡ Ok header
+        → AreSpaced header.shift (map is_key (frames_of packets)) }
+    // Each frame packet says something by itself, and decodes from the state of those before it.
+    ensures frames { (packets : List (List ℕ)) (header : Header) (contents : Contents) (n : ℕ) → 3 ≤ length packets → AreFaultless packets
+        → ident_of (packet_at packets 0) ≡ Ok header → setup_of (packet_at packets 2) ≡ Ok contents
+        → n < length (frames_of packets) → IsOk (frame_in contents (shape_of header) (nat_lt 0 n) (frame_at packets n)) }
+    ensures decodes { (packets : List (List ℕ)) (header : Header) (contents : Contents) → 3 ≤ length packets → AreFaultless packets
+        → ident_of (packet_at packets 0) ≡ Ok header → setup_of (packet_at packets 2) ≡ Ok contents
+        → IsOk (state_after contents (shape_of header) None (frames_of packets)) }
+    ensures quantisers { (before : ℕ) (packets : List (List ℕ)) → before < 64 → All (λ quantiser. quantiser < 64) (quantisers before packets) }
 {}

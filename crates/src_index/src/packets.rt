@@ -10,8 +10,8 @@ ghost use Rattle.src_index.specs.Checks.{packet_step, packets_over, page_over, f
 ghost use Rattle.src_index.specs.Refusing.{RefusesAs, RefusesPacket};
 
 use crate::fault::{Fault, Refusal};
-use crate::frames::{MOST_BYTES, MOST_PACKETS, check, quantiser_behind};
-use crate::headers::{AllHeaders, Heads, Headers};
+use crate::frames::{MOST_BYTES, MOST_PACKETS, quantiser_behind};
+use crate::headers::{Headers, Heads, Whole};
 use crate::heading::with_header;
 use crate::pages::Pages;
 use ogg_link::{Counted, Progress};
@@ -33,6 +33,7 @@ pub(crate) struct Frame {
     pub(crate) segment: u8,
     pub(crate) key: bool,
     pub(crate) quantiser: u8,
+    ghost small: { quantiser < 64 },
 }
 
 /// The packets of a track so far. How many they are, and which is the last key frame, the walk knows.
@@ -109,18 +110,15 @@ impl Packets {
     }
 
     // The frame that was begun has ended, behind all headers. Its buffer serves the next.
-    fn end_frame(
-        &mut self,
-        counted: Counted,
-        headers: AllHeaders,
-    ) -> Result<(), vid_base::Refusal>
+    fn end_frame(&mut self, counted: Counted, whole: Whole) -> Result<(), vid_base::Refusal>
         requires key { counted.key ≡ is_key self.old.begun.items }
         requires few { vec_len self.old.frames < 2 ^ 24 }
-        ensures said { OnOk result (said_step (said_of (Headers.All headers)) counted self.old.begun.items ≡ Ok (said_of self.new.headers)) }
-        ensures kept { OnOk result (kept_of self.new ≡ ends_frame (record (kept_of self.old) { headers = packets_in (Headers.All headers) })) }
-        ensures fault { IfErr result (λ refusal. Refuses refusal (said_step (said_of (Headers.All headers)) counted self.old.begun.items)) }
+        ensures said { OnOk result (said_step (said_of (Headers.All whole)) counted self.old.begun.items ≡ Ok (said_of self.new.headers)) }
+        ensures kept { OnOk result (kept_of self.new ≡ ends_frame (record (kept_of self.old) { headers = packets_in (Headers.All whole) })) }
+        ensures fault { IfErr result (λ refusal. Refuses refusal (said_step (said_of (Headers.All whole)) counted self.old.begun.items)) }
     {
-        check(&headers, counted, &self.begun)?;
+        let mut whole = whole;
+        whole.check(counted, &self.begun)?;
         let quantiser = quantiser_behind(self.quantiser, &self.begun);
         self.frames.push(Frame {
             page: self.place.page,
@@ -129,7 +127,7 @@ impl Packets {
             quantiser,
         })?;
         self.quantiser = quantiser;
-        self.headers = Headers::All(headers);
+        self.headers = Headers::All(whole);
         self.begun.clear();
         Ok(())
     }
@@ -150,7 +148,7 @@ impl Packets {
         let headers = std::mem::replace(&mut self.headers, Headers::Begun(Heads::Nothing));
         let ended = match headers {
             Headers::Begun(heads) => self.end_header(heads),
-            Headers::All(all) => self.end_frame(counted, all),
+            Headers::All(whole) => self.end_frame(counted, whole),
         };
         match ended {
             Ok(()) => Ok(()),

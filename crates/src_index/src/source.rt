@@ -126,9 +126,9 @@ fn judge<D: Desk>(alloc: Global, desk: &mut D, id: u32, size: u64) -> Result<Sou
 impl Source {
     /// Judges a whole file: its pages from byte 0 on, each with its own faults, its place in the link, the packets of the
     /// track that end on it, and its granule position; and then the end. The first check that fails is the answer, and a
-    /// packet's limit comes before its other faults. Of a frame only the first two bits are looked at. A file of more than
-    /// 2^40 bytes is `TooLong`, before any of it is read. The file is read once, in pieces of at most 65,307 bytes, and none
-    /// of them is kept. `Changed` is never answered.
+    /// packet's limit comes before its other faults. A frame packet is read as the decoder reads it, and no picture is made.
+    /// A file of more than 2^40 bytes is `TooLong`, before any of it is read. The file is read once, in pieces of at most
+    /// 65,307 bytes, and none of them is kept. `Changed` is never answered.
     pub fn load<D: Desk>(alloc: Global, desk: &mut D, id: u32) -> Result<Source, SourceFault>
         requires id { id < (D.sees desk.old).found }
         ensures judged { Told (D.sees desk.old) id (λ bytes. Answers longest result bytes) }
@@ -172,7 +172,8 @@ impl Source {
     /// The first quantiser index of the latest packet with bytes at or before frame n (Theora I, 7.1).
     pub fn quantiser(&self, n: u32) -> u8
         requires { n < frame_count self.now }
-        ensures { result ≡ quantiser_at self.now n }
+        ensures value { result ≡ quantiser_at self.now n }
+        ensures small { result < 64 }
     {
         self.frames[n as usize].quantiser
     }

@@ -24,6 +24,9 @@ const COMMENT: &[u8] = b"\x81theora\x06\0\0\0oggcut\0\0\0\0";
 // A key frame of one grey macro block.
 const KEY: &[u8] = &[0x1e, 0x00, 0x01, 0xc0, 0x00];
 
+// An inter frame in which no block is coded.
+const INTER: &[u8] = &[0x40, 0x2a, 0x80];
+
 // Granule position and packet of a frame, which stands alone on its page.
 type Frame<'a> = (u64, &'a [u8]);
 
@@ -106,13 +109,15 @@ fn setup_packet(rt: &impl Abort, alloc: Global) -> Vec<u8>
     out
 }
 
-// A key frame of so many bytes.
+// A key frame of so many bytes, of which those behind the first five are not looked at.
 fn key_frame(rt: &impl Abort, alloc: Global, size: usize) -> Vec<u8>
     ensures { vec_len result ≡ size }
 {
-    let Ok(frame) = Vec::from_elem(alloc, 0x3fu8, size) else {
+    let Ok(mut frame) = Vec::from_elem(alloc, 0x3fu8, size) else {
         panic!(rt; "there is no frame")
     };
+    assert!(rt; size >= 5 && KEY.len() == 5);
+    frame[..5].copy_from_slice(KEY);
     frame
 }
 
@@ -152,6 +157,24 @@ fn a_file_of_one_key_frame_is_loaded(rt: HostRuntime) {
             && headers.comment == COMMENT
             && headers.setup == setup.as_slice()
     );
+}
+
+#[test]
+fn frames_that_decode_are_loaded(rt: HostRuntime) {
+    let alloc = rt.alloc();
+    let setup = setup_packet(&rt, alloc);
+    let rows: [&[Frame]; 3] = [
+        &[(64, &[0x3f, 0x00, 0x04, 0x8d, 0x00, 0x00])],
+        &[(64, KEY), (65, INTER), (66, &[])],
+        &[(64, KEY), (128, KEY), (129, INTER)],
+    ];
+    for frames in rows {
+        let bytes = file_of(&rt, alloc, &IDENT, COMMENT, &setup, frames);
+        let Ok(source) = loaded(&rt, alloc, &bytes, None) else {
+            panic!(&rt; "the file is not loaded")
+        };
+        assert_eq!(rt; source.frames() as usize, frames.len());
+    }
 }
 
 #[test]

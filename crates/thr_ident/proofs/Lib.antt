@@ -3,3 +3,4 @@ pub mod CommentLemmas
 pub mod RuleLemmas
 pub mod LayoutLemmas
 pub mod IdentLemmas
+pub mod ShapeLemmas

@@ -2,3 +2,4 @@ pub mod Header
 pub mod Ident
 pub mod Comment
 pub mod Fields
+pub mod Shape

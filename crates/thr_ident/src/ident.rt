@@ -59,6 +59,7 @@ impl Ident {
     ghost use Rattle.thr_ident.specs.Fields.{header_from};
     ghost use Rattle.thr_ident.specs.Header.{Fits};
     ghost use Rattle.thr_ident.specs.Ident.{header_of, header_rules};
+    ghost use Rattle.thr_ident.specs.Shape.{shape_of};
     ghost use Rattle.vid_base.specs.Rules.{first_fault};
 
     /// The coded frame's size and its pixel format.
@@ -66,6 +67,7 @@ impl Ident {
         ensures wide { result.fmbw ≡ self.now.fmbw }
         ensures high { result.fmbh ≡ self.now.fmbh }
         ensures format { result.pf ≡ self.now.pf }
+        ensures shape { result ≡ shape_of (header_of self.now) }
     {
         Shape {
             fmbw: self.fmbw,

@@ -53,12 +53,13 @@ fn packets_are_gathered_from_their_pages(rt: HostRuntime) {
     let frame = key_frame(&rt, alloc, 600);
     let mut bytes = file_of(&rt, alloc, &IDENT, COMMENT, &setup, &[(64, KEY)]);
     // A packet of three pages, between which a page of another stream stands, and two empty ones behind it.
-    let part = frame.split_at(255).0;
+    let (first, rest) = frame.split_at(255);
+    let (middle, last) = rest.split_at(255);
     let pages: [(u8, u64, u32, u32, &[u8], &[u8]); 4] = [
-        (0, u64::MAX, 1, 3, &[255], part),
+        (0, u64::MAX, 1, 3, &[255], first),
         (0, 0, 2, 0, &[5], b"other"),
-        (1, u64::MAX, 1, 4, &[255], part),
-        (5, 130, 1, 5, &[90, 0, 0], frame.split_at(90).0),
+        (1, u64::MAX, 1, 4, &[255], middle),
+        (5, 130, 1, 5, &[90, 0, 0], last),
     ];
     for (flags, granule, serial, number, lacing, body) in pages {
         let head = PageHead {
@@ -82,7 +83,7 @@ fn packets_are_gathered_from_their_pages(rt: HostRuntime) {
 fn quantisers_are_those_of_the_latest_packets_with_bytes(rt: HostRuntime) {
     let alloc = rt.alloc();
     let setup = setup_packet(&rt, alloc);
-    let frames: [Frame; 4] = [(64, KEY), (65, &[]), (66, &[0x7f]), (67, &[])];
+    let frames: [Frame; 4] = [(64, KEY), (65, &[]), (66, &[0x7f, 0x2a, 0x80]), (67, &[])];
     let bytes = file_of(&rt, alloc, &IDENT, COMMENT, &setup, &frames);
     let Ok(source) = super::loaded(&rt, alloc, &bytes, None) else {
         panic!(&rt; "the file is not loaded")

@@ -60,11 +60,11 @@ fn a_whole_page_inside_another_is_a_false_one(rt: HostRuntime) {
     add_page(&rt, &mut page, &head, &[1], b"O");
     assert!(rt; page.len() == 29);
     let (cut, _) = page.split_at(28);
-    assert!(rt; is_seekable(&rt, alloc, &setup, cut, 1));
+    assert!(rt; is_seekable(&rt, alloc, &setup, cut, 5));
     let first_piece = 65_307 - BODY;
-    // At the packet's start, at its end, and where the first piece ends before it, within its head or behind it.
+    // Behind the frame's bits, at the packet's end, and where the first piece ends before it, within its head or behind it.
     for at in [
-        1,
+        5,
         64_000 - 29,
         first_piece,
         first_piece - 1,

@@ -1,7 +1,7 @@
 // Each fault of judging has a smallest file.
 ghost use Rattle.vid_desk.specs.Counts.{untold};
 
-use super::{COMMENT, Frame, IDENT, KEY, file_of, loaded, setup_packet};
+use super::{COMMENT, Frame, IDENT, INTER, KEY, file_of, loaded, setup_packet};
 use crate::{Source, SourceFault};
 use ogg_link::LinkFault;
 use ogg_page::PageFault;
@@ -29,7 +29,7 @@ fn the_first_fault_of_the_frames_is_answered(rt: HostRuntime) {
         at: 2619,
         fault: LinkFault::BadGranule,
     };
-    let rows: [(&str, &[u8; 42], &[Frame], SourceFault); 11] = [
+    let rows: [(&str, &[u8; 42], &[Frame], SourceFault); 17] = [
         (
             "an inter frame first",
             &IDENT,
@@ -63,8 +63,44 @@ fn the_first_fault_of_the_frames_is_answered(rt: HostRuntime) {
         (
             "too far from its key frame",
             &NO_SHIFT,
-            &[(1, KEY), (2, &[0x40])],
+            &[(1, KEY), (2, INTER)],
             bad(4, PacketFault::KeyTooFar),
+        ),
+        (
+            "cut and too far",
+            &NO_SHIFT,
+            &[(1, KEY), (2, &[0x40])],
+            bad(4, PacketFault::Ended),
+        ),
+        (
+            "cut to four bytes",
+            &IDENT,
+            &[(64, &[0x1e, 0x00, 0x01, 0xc0])],
+            bad(3, PacketFault::Ended),
+        ),
+        (
+            "reserved bits",
+            &IDENT,
+            &[(64, &[0x00, 0x10])],
+            bad(3, PacketFault::Reserved),
+        ),
+        (
+            "a run for more superblocks than there are",
+            &IDENT,
+            &[(64, KEY), (65, &[0x40, 0x30])],
+            bad(4, PacketFault::RunTooLong),
+        ),
+        (
+            "modes with equal ranks",
+            &IDENT,
+            &[(64, KEY), (65, &[0x40, 0x2e, 0x80, 0, 0, 0])],
+            bad(4, PacketFault::BadAlphabet),
+        ),
+        (
+            "a token past the last place",
+            &IDENT,
+            &[(64, &[0x3f, 0x00, 0x04, 0x8d, 0x00, 0x47, 0xe0])],
+            bad(3, PacketFault::TokenPastEnd),
         ),
         (
             "empty and too far",

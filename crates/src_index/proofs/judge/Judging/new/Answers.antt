@@ -1,7 +1,5 @@
-use Rattle.std.proofs.Common.{rules, refl, sym, subst, ap, None}
+use Rattle.std.proofs.Common.{rules, refl}
 use Rattle.ogg_link.proofs.StepLemmas.{start_holds}
-use Rattle.ogg_link.specs.Progress.{Holds}
-use Rattle.ogg_link.specs.Walk.{start}
 use Rattle.src_index.specs.Said.{shift_of}
 use Rattle.src_index.specs.Headers.{said_of}
 use Rattle.src_index.specs.Holding.{kept_of}

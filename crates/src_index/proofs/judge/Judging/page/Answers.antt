@@ -1,6 +1,5 @@
 use Rattle.std.proofs.Common.{rules, ◌≡◌, ◌∙◌, Ok, sym, subst}
 use Rattle.ogg_page.specs.Page.{view}
-use Rattle.ogg_page.specs.Packets.{segments}
 use Rattle.ogg_link.specs.declared.state.Progress.{Progress}
 use Rattle.ogg_link.specs.Progress.{after_pieces, Holds}
 use Rattle.ogg_link.specs.Walk.{step}

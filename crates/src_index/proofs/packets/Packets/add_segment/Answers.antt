@@ -1,4 +1,4 @@
-use Rattle.std.proofs.Common.{rules, ◌≡◌, ◌∙◌, ◌++◌, Bool, true, false, Ok, Some, [], refl, ap, sym, subst}
+use Rattle.std.proofs.Common.{rules, ◌≡◌, ◌∙◌, ◌++◌, true, false, Ok, [], refl, ap, sym, subst}
 use Rattle.ogg_link.specs.Progress.{counted, after_piece}
 use Rattle.ogg_page.specs.Packets.{packets_from}
 use Rattle.ogg_link.specs.declared.state.Counted.{Counted}
@@ -7,7 +7,7 @@ use Rattle.src_index.specs.Kept.{Kept, with_end, with_bytes, with_place}
 use Rattle.src_index.specs.Checks.{packet_step, packets_over}
 use Rattle.src_index.specs.Refusing.{RefusesPacket}
 use Rattle.src_index.specs.Holding.{kept_of, place_of}
-use Rattle.src_index.specs.Headers.{packets_in, said_of}
+use Rattle.src_index.specs.Headers.{said_of}
 use Rattle.src_index.proofs.PieceLemmas.{ends_so, goes_on_so, left_none, left_more, none_begun, piece_goes_on, piece_passes, piece_refused, piece_tallied}
 use Rattle.src_index.proofs.packets.Packets.add_segment.Goals as goal
 

@@ -4,8 +4,8 @@ use Rattle.src_index.specs.Index.{Frame, Index}
 use Rattle.src_index.specs.Holding.{frame_of}
 use Rattle.src_index.proofs.source.Source.quantiser.Goals as goal
 
-pub returns : goal.returns
-returns c =
+pub returns-clause-value : goal.returns-clause-value
+returns-clause-value c =
     let raw = c.index.result.now in
     let frames = c.self.inside.frames.items in
     let view : map frame_of frames ≡ c.args.self.now.frames = ap (λ (i : Index). i.frames) c.self.view_is in
