@@ -30,7 +30,7 @@ use Rattle.thr_frame.specs.Step.{step, state_after, next_state}
 use Rattle.src_index.specs.declared.fault.Fault.{Fault}
 use Rattle.src_index.specs.declared.fault.Fault.TheVariants.{InLink}
 use Rattle.src_index.specs.Said.{Said, Start, WithIdent, WithComment, WithSetup, shift_of}
-use Rattle.src_index.specs.Spacing.{AreSpaced}
+use Rattle.ogg_link.specs.Spacing.{AreSpaced}
 use Rattle.src_index.specs.Track.{frames_of, frame_at, packet_at}
 use Rattle.src_index.specs.Quantiser.{quantiser_behind, quantisers}
 use Rattle.src_index.specs.Checks.{packet_step, packets_over, page_over, fault_at, said_step, is_near, most_packets, AreFaultless}

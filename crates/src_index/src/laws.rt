@@ -11,7 +11,7 @@ ghost use Rattle.thr_ident.specs.Shape.{shape_of};
 ghost use Rattle.thr_frame.specs.Parsed.{frame_in};
 ghost use Rattle.thr_frame.specs.Step.{state_after};
 ghost use Rattle.src_index.specs.Track.{frames_of, frame_at, packet_at};
-ghost use Rattle.src_index.specs.Spacing.{AreSpaced};
+ghost use Rattle.ogg_link.specs.Spacing.{AreSpaced};
 ghost use Rattle.src_index.specs.Checks.{AreFaultless};
 ghost use Rattle.src_index.specs.Quantiser.{quantisers};
 ghost use Rattle.src_index.specs.Gather.{IsIndexOf};
