@@ -1,4 +1,5 @@
 pub mod Track
+pub mod Spacing
 pub mod Flags
 pub mod Faults
 pub mod Parts

@@ -124,7 +124,7 @@ unfolding rest_of frame_segments pages_from pages_list
 finish_rest m = refl
 
 -- a packet has a segment
-some_segment : (n : ℕ) (packet : List ℕ) (granule : ℕ) (least : Option ℕ) (more : List Segment) → (s : Segment) × (ss : List Segment) × (cut_at_255 n packet granule least ++ more ≡ s ∷ ss)
+pub some_segment : (n : ℕ) (packet : List ℕ) (granule : ℕ) (least : Option ℕ) (more : List Segment) → (s : Segment) × (ss : List Segment) × (cut_at_255 n packet granule least ++ more ≡ s ∷ ss)
 unfolding cut_at_255
 some_segment zero packet granule least more = (_, _, refl)
 some_segment (suc n) packet granule least more = (_, _, refl)

@@ -5,6 +5,7 @@ use Rattle.ogg_page.specs.Page.{ArePages}
 use Rattle.ogg_page.specs.Packets.{packets_from, segments, packets_of}
 use Rattle.ogg_link.specs.Track.{is_key, granule_of}
 use Rattle.ogg_mux.specs.OutputPages.{Segment, Stream, first_page, cut_at_255, packet_segments, header_segments, frame_segments, paged_list, paged}
+use Rattle.ogg_mux.specs.Walked.{HasRoom}
 use Rattle.ogg_page.proofs.WrittenLemmas.{AllWritable, ArePages-written_pages}
 use Rattle.ogg_mux.proofs.OutputLemmas.{AllFit, AllFit-cut, AllWritable-pages_list, IsSound-first_page, piece_of, segments_of-pages_list}
 
@@ -67,13 +68,6 @@ AllFit-header_segments s more m =
 AllFit-headers_alone : (s : Stream) → AllFit (header_segments s)
 unfolding AllFit
 AllFit-headers_alone s = subst AllFit (append-nil (header_segments s)) (AllFit-header_segments s [] tt)
-
--- numbers of a stream that fit
-pub record HasRoom (s : Stream) (ps : List (List ℕ)) : Type 0 where
-  pub serial : s.serial < 2 ^ 32
-  pub shift : s.shift ≤ 31
-  pub base : s.base ≤ 1
-  pub count : length ps ≤ 2 ^ 24
 
 all_fit : (least : ℕ) (s : Stream) (p : List ℕ) (ps : List (List ℕ)) → HasRoom s (p ∷ ps) → AllFit (header_segments s ++ frame_segments least s.base s.shift 0 0 (p ∷ ps))
 all_fit least s p ps room = AllFit-header_segments s _ (AllFit-frame_segments least s.base s.shift 0 0 (p ∷ ps) room.base room.shift (omega arith) (omega (arith, room.count)))

@@ -1,3 +1,4 @@
 pub mod OutputPages
 pub mod Muxing
 pub mod Room
+pub mod Walked

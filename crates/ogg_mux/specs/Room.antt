@@ -1,4 +1,4 @@
--- How much room the pages take that are written while a packet is added (private).
+-- Where pages are written while a packet is added, and how much room they take (own).
 use Rattle.std.specs.Prelude.{◌≡◌, ℕ, ◌+◌, ◌*◌, ◌<◌, ◌≤◌, Bool, true, ◌||◌, length, nat_lt}
 use Rattle.ogg_mux.specs.OutputPages.{Held}
 

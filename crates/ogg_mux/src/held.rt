@@ -49,7 +49,7 @@ impl Model for Held {
         × (255 ≤ vec_capacity h.lacing) × (65025 ≤ vec_capacity h.body) };
 }
 
-// A body of that size is closed by a segment with that least size.
+/// A body of that size is closed by a segment with that least size.
 fn reaches(size: usize, least: Option<usize>) -> bool
     ensures { result ≡ reaches size least }
 {
@@ -59,7 +59,7 @@ fn reaches(size: usize, least: Option<usize>) -> bool
     }
 }
 
-// More bytes, for which there is room.
+/// More bytes, for which there is room.
 fn append(out: &mut Vec<u8>, bytes: &[u8])
     requires { vec_len out.old + length bytes.now ≤ vec_capacity out.old }
     ensures items { out.new.items ≡ out.old.items ++ bytes.now }
@@ -69,7 +69,7 @@ fn append(out: &mut Vec<u8>, bytes: &[u8])
 }
 
 impl Held {
-    // The first page of a stream.
+    /// The first page of a stream.
     pub(crate) fn first(alloc: Global) -> Result<Held, NoMem>
         ensures { IfOk result (λ held. held ≡ first_page) }
     {
@@ -90,7 +90,7 @@ impl Held {
         self.closed
     }
 
-    // It becomes the page that follows.
+    /// It becomes the page that follows.
     #[tactic(auto, unfolding(crate::specs::OutputPages::next_page))]
     pub(crate) fn turn(&mut self)
         ensures { self.new ≡ next_page self.old }
@@ -104,7 +104,7 @@ impl Held {
         self.closed = false;
     }
 
-    // One more segment.
+    /// One more segment.
     #[tactic(auto, unfolding(crate::specs::OutputPages::grown))]
     pub(crate) fn grow(&mut self, bytes: &[u8], granule: Option<u64>, least: Option<usize>)
         requires open { self.old.closed ≡ false }
@@ -118,7 +118,7 @@ impl Held {
         self.closed = self.lacing.len() == MOST_LACING || reaches(self.body.len(), least);
     }
 
-    // Room for what is written while a packet of so many bytes is added: none where the packet fits the page.
+    /// Room for what is written while a packet of so many bytes is added: none where the packet fits the page.
     pub(crate) fn most_written(&self, size: usize) -> usize
         requires { size < 2 ^ 63 }
         ensures { result ≡ (if spills self.now (size / 255 + 1) then most_written self.now (size / 255 + 1) size else 0) }
@@ -131,7 +131,7 @@ impl Held {
         }
     }
 
-    // Its bytes, with these flags beside its own, behind those that are ready.
+    /// Its bytes, with these flags beside its own, behind those that are ready.
     pub(crate) fn write(&self, serial: u32, flags: u8, ready: &mut Vec<u8>) -> Result<(), NoMem>
         requires flags { flags ≤ 4 }
         ensures written { OnOk result (ready.new.items ≡ ready.old.items ++ written_page (page_with serial flags self.now)) }
@@ -148,7 +148,7 @@ impl Held {
         write_page(ready, &head, &self.lacing, &self.body)
     }
 
-    // Its bytes behind those that are ready, where there is room for them.
+    /// Its bytes behind those that are ready, where there is room for them.
     pub(crate) fn write_reserved(&self, serial: u32, ready: &mut Vec<u8>)
         requires room { length ready.old.items + bytes_of_page (page_with serial 0 self.now) ≤ vec_capacity ready.old }
         ensures written { ready.new.items ≡ ready.old.items ++ written_page (page_with serial 0 self.now) }
@@ -157,7 +157,7 @@ impl Held {
         let _ = self.write(serial, 0, ready);
     }
 
-    // Its bytes as those of the last page, which is not there where it is empty.
+    /// Its bytes as those of the last page, which is not there where it is empty.
     pub(crate) fn write_last(
         &self,
         serial: u32,
@@ -167,6 +167,7 @@ impl Held {
         requires flags { flags ≤ 4 }
         ensures written { OnOk result (ready.new.items ≡ ready.old.items ++ written_pages (last_pages serial flags self.now)) }
         ensures memory { OnErr result (ready.new.items ≡ ready.old.items) }
+        ensures needed { OnErr result (0 < length self.now.lacing) }
     {
         if self.lacing.is_empty() {
             return Ok(());

@@ -3,7 +3,7 @@ ghost use Rattle.std.specs.Prelude.{◌≡◌, ◌≤◌, ◌<◌, ◌+◌, ◌-
 ghost use Rattle.ogg_link.specs.Track.{is_key, granule_of};
 ghost use Rattle.ogg_mux.specs.OutputPages.{paged, Held as HeldPage};
 ghost use Rattle.ogg_mux.specs.Muxing.{rest_of, least_body};
-ghost use Rattle.ogg_mux.specs.Room.{IsRoomy};
+ghost use Rattle.ogg_mux.specs.Room.{IsRoomy, spills};
 
 use crate::held::Held;
 use crate::packets::add_packet;
@@ -40,14 +40,14 @@ impl Model for Mux {
     ghost invariant = { λ m. (m.shift ≤ 31) × (m.base ≤ 1) × (m.frames ≤ 2 ^ 24) × (m.key ≤ m.frames) };
 }
 
-// The last key frame, where the next frame is one or not.
+/// The last key frame, where the next frame is one or not.
 fn last_key(key: bool, frame: u32, before: u32) -> u32
     ensures { result ≡ (if key then frame else before) }
 {
     if key { frame } else { before }
 }
 
-// The granule position of a frame (Theora I, A.2.3).
+/// The granule position of a frame (Theora I, A.2.3).
 fn position(base: u64, key: u32, frame: u32, shift: u8) -> u64
     requires base { base ≤ 1 }
     requires key { key ≤ frame }
@@ -58,11 +58,12 @@ fn position(base: u64, key: u32, frame: u32, shift: u8) -> u64
     ogg_link::granule(base, key, frame, shift).unwrap_or(0)
 }
 
-// Room for the pages that are written while a packet of so many bytes is added.
+/// Room for the pages that are written while a packet of so many bytes is added.
 fn make_room(ready: &mut Vec<u8>, held: &Held, size: usize) -> Result<(), NoMem>
     requires { size < 2 ^ 63 }
     ensures items { ready.new.items ≡ ready.old.items }
     ensures room { OnOk result (IsRoomy (length ready.new.items) (vec_capacity ready.new) held.now (size / 255 + 1) size) }
+    ensures needed { OnErr result (spills held.now (size / 255 + 1) ≡ true) }
 {
     ready.try_reserve(held.most_written(size))?;
     Ok(())
@@ -111,7 +112,8 @@ impl Mux {
         })
     }
 
-    /// One frame packet more; `key` says whether it holds a key frame. After `NoMem` nothing has changed.
+    /// One frame packet more; `key` says whether it holds a key frame. After `NoMem`, which comes only where a page is to be
+    /// written before the packet ends, nothing has changed.
     pub fn packet(&mut self, bytes: &[u8], key: bool) -> Result<(), NoMem>
         requires open { self.old.finished ≡ false }
         requires few { self.old.frames < 2 ^ 24 }
@@ -123,6 +125,7 @@ impl Mux {
         ensures shift { self.new.shift ≡ self.old.shift }
         ensures open { self.new.finished ≡ false }
         ensures err { OnErr result (self.new ≡ self.old) }
+        ensures needed { OnErr result (spills self.old.held (length bytes.now / 255 + 1) ≡ true) }
     {
         let last = last_key(key, self.frames, self.key);
         let granule = position(self.base, last, self.frames, self.shift);
@@ -149,12 +152,13 @@ impl Mux {
         mem::replace(&mut self.ready, Vec::new(alloc))
     }
 
-    /// The last page is ready. After `NoMem` nothing has changed.
+    /// The last page is ready. After `NoMem`, which comes only where there is one, nothing has changed.
     pub fn finish(&mut self) -> Result<(), NoMem>
         requires open { self.old.finished ≡ false }
         ensures all { OnOk result (self.new.ready ≡ rest_of self.old []) }
         ensures frames { self.new.frames ≡ self.old.frames }
         ensures err { OnErr result (self.new ≡ self.old) }
+        ensures needed { OnErr result (0 < length self.old.held.lacing) }
     {
         self.held.write_last(self.serial, 4, &mut self.ready)?;
         self.finished = true;

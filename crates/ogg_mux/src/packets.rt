@@ -6,7 +6,7 @@ ghost use Rattle.ogg_mux.specs.Room.{IsRoomy, spills, most_written};
 use crate::held::Held;
 use vid_base::NoMem;
 
-// A page on which a segment can stand: the held one is written where it is closed, for which there is room.
+/// A page on which a segment can stand: the held one is written where it is closed, for which there is room.
 fn open(serial: u32, held: &mut Held, ready: &mut Vec<u8>)
     requires room { held.old.closed ≡ true → length ready.old.items + 27 + length held.old.lacing + length held.old.body ≤ vec_capacity ready.old }
     ensures open { held.new.closed ≡ false }
@@ -21,7 +21,7 @@ fn open(serial: u32, held: &mut Held, ready: &mut Vec<u8>)
     }
 }
 
-// One segment more.
+/// One segment more.
 fn add(
     serial: u32,
     held: &mut Held,
@@ -43,7 +43,7 @@ fn add(
     held.grow(bytes, granule, least);
 }
 
-// The next 255 bytes of a packet.
+/// The next 255 bytes of a packet.
 fn front(bytes: &[u8], at: usize) -> &[u8]
     requires { at + 255 ≤ length bytes.now }
     ensures bytes { result.now ≡ take 255 (drop at bytes.now) }
@@ -52,7 +52,7 @@ fn front(bytes: &[u8], at: usize) -> &[u8]
     &bytes[at..at + 255]
 }
 
-// The last bytes of a packet.
+/// The last bytes of a packet.
 fn back(bytes: &[u8], at: usize) -> &[u8]
     requires { at ≤ length bytes.now }
     ensures { result.now ≡ drop at bytes.now }
@@ -60,7 +60,7 @@ fn back(bytes: &[u8], at: usize) -> &[u8]
     &bytes[at..]
 }
 
-// One packet more, for whose pages there is room.
+/// One packet more, for whose pages there is room.
 pub(crate) fn add_packet(
     serial: u32,
     held: &mut Held,

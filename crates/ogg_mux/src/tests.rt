@@ -5,7 +5,7 @@ use ogg_page::read_page;
 use std::alloc::Global;
 use std::process::Abort;
 
-// A muxer with shift 6, of which frames and the frames since the last key frame are counted.
+/// A muxer with shift 6, of which frames and the frames since the last key frame are counted.
 #[derive(Drop)]
 struct Fed {
     mux: Mux,
@@ -18,7 +18,7 @@ struct Fed {
 }
 
 impl Fed {
-    // Headers of these sizes, serial number 1 and base 1.
+    /// Headers of these sizes, serial number 1 and base 1.
     fn new(rt: &impl Abort, alloc: Global, ident: &[u8], comment: &[u8], setup: &[u8]) -> Fed {
         match Mux::new(alloc, ident, comment, setup, 1, 6, 1) {
             Ok(mux) => Fed {
@@ -30,7 +30,7 @@ impl Fed {
         }
     }
 
-    // One packet more.
+    /// One packet more.
     fn packet(&mut self, rt: &impl Abort, bytes: &[u8]) {
         let key = !bytes.is_empty() && bytes[0] < 64;
         assert!(rt; self.frames < 1 << 24);
@@ -44,12 +44,12 @@ impl Fed {
         }
     }
 
-    // The bytes that are ready.
+    /// The bytes that are ready.
     fn taken(&mut self) -> Vec<u8> {
         self.mux.take_bytes()
     }
 
-    // The bytes with the last page.
+    /// The bytes with the last page.
     fn finished(self, rt: &impl Abort) -> Vec<u8> {
         let mut mux = self.mux;
         assert!(rt; mux.finish().is_ok());
@@ -57,7 +57,7 @@ impl Fed {
     }
 }
 
-// The pages of bytes, in order: size, flags, granule position.
+/// The pages of bytes, in order: size, flags, granule position.
 fn check_pages(rt: &impl Abort, name: &str, bytes: &[u8], wanted: &[(usize, u8, u64)]) {
     let mut at = 0usize;
     let mut number = 0u32;
@@ -80,15 +80,15 @@ fn check_pages(rt: &impl Abort, name: &str, bytes: &[u8], wanted: &[(usize, u8, 
     assert_eq!(rt; at, bytes.len(), "{name}: no byte is over");
 }
 
-// So many bytes of this value.
+/// So many bytes of this value.
 fn filled(rt: &impl Abort, alloc: Global, size: usize, byte: u8) -> Vec<u8> {
     let mut bytes = Vec::new(alloc);
     assert!(rt; bytes.resize(size, byte).is_ok());
     bytes
 }
 
-// All bytes of a stream with headers of 42, 21 and 2,490 bytes and these packets: how many, of which size, key frames or not.
-// They are taken after each packet.
+/// All bytes of a stream with headers of 42, 21 and 2,490 bytes and these packets: how many, of which size, key frames or not.
+/// They are taken after each packet.
 fn muxed(rt: &(impl Abort + AllocGlobal), packets: &[(usize, usize, bool)]) -> Vec<u8> {
     let ident = filled(rt, rt.alloc(), 42, 0x80);
     let comment = filled(rt, rt.alloc(), 21, 0x81);
@@ -106,7 +106,7 @@ fn muxed(rt: &(impl Abort + AllocGlobal), packets: &[(usize, usize, bool)]) -> V
     bytes
 }
 
-// On a page with this granule position no packet ends.
+/// On a page with this granule position no packet ends.
 const NO_GRANULE: u64 = u64::MAX;
 
 #[test]

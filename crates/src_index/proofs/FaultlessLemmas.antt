@@ -29,7 +29,7 @@ use Rattle.thr_frame.specs.Rebuilt.{Pair}
 use Rattle.thr_frame.specs.Step.{step, state_after, next_state}
 use Rattle.src_index.specs.declared.fault.Fault.{Fault}
 use Rattle.src_index.specs.Said.{Said, Start, WithIdent, WithComment, WithSetup, shift_of}
-use Rattle.src_index.specs.Spacing.{AreSpaced}
+use Rattle.ogg_link.specs.Spacing.{AreSpaced}
 use Rattle.src_index.specs.Track.{frames_of, frame_at, packet_at}
 use Rattle.src_index.specs.Quantiser.{quantisers}
 use Rattle.src_index.specs.Checks.{packet_step, packets_over, fault_at, said_step, is_near, most_packets, AreFaultless}
@@ -40,11 +40,11 @@ use Rattle.src_index.proofs.LetterLemmas.{ok_value}
 use Rattle.src_index.proofs.SpacingLemmas.{spaced_more, nothing_spaced}
 
 -- how many packets have ended behind these
-unfoldable count_after : ℕ → List (List ℕ) → ℕ
+unfoldable pub count_after : ℕ → List (List ℕ) → ℕ
 count_after n [] = n
 count_after n (packet ∷ packets) = count_after (one_more n) packets
 
-count_is : (n : ℕ) (packets : List (List ℕ)) → n ≤ 2 ^ 64 - 1 → count_after n packets ≡ min (n + length packets) (2 ^ 64 - 1)
+pub count_is : (n : ℕ) (packets : List (List ℕ)) → n ≤ 2 ^ 64 - 1 → count_after n packets ≡ min (n + length packets) (2 ^ 64 - 1)
 unfolding count_after
 count_is n [] h = omega (arith, h)
 count_is n (packet ∷ packets) h = omega (arith, h, count_is (one_more n) packets (omega arith))
@@ -64,7 +64,7 @@ last_more n last [] ys = refl
 last_more n last (x ∷ xs) ys = last_more (one_more n) (key_after (is_key x) n last) xs ys
 
 -- packets without a fault have none wherever they stand
-over_anywhere : (at other n : ℕ) (last : Option ℕ) (said next : Said) (xs : List (List ℕ)) → packets_over at n last said xs ≡ Ok next → packets_over other n last said xs ≡ Ok next
+pub over_anywhere : (at other n : ℕ) (last : Option ℕ) (said next : Said) (xs : List (List ℕ)) → packets_over at n last said xs ≡ Ok next → packets_over other n last said xs ≡ Ok next
 unfolding packets_over
 over_anywhere at other n last said next [] h = h
 over_anywhere at other n last said next (x ∷ xs) h =
@@ -84,7 +84,7 @@ unfolding packets_over count_after last_key_among
 nothing_known = record { over = refl; count = refl; last = refl; holds = start_holds }
 
 -- the lacing values of a page count its body
-page_shape : (bytes : List ℕ) (page : Page) → page_at_front bytes ≡ Ok page → sum page.lacing ≡ length page.body
+pub page_shape : (bytes : List ℕ) (page : Page) → page_at_front bytes ≡ Ok page → sum page.lacing ≡ length page.body
 page_shape bytes page e =
     let is = page_is bytes page e in
     let lacing : lacing_of bytes ≡ page.lacing = ap (λ (p : Page). p.lacing) is.2 in

@@ -3,6 +3,7 @@ pub mod CheckLemmas
 mod PieceLemmas
 pub mod SpacingLemmas
 pub mod FaultlessLemmas
+pub mod WrittenLemmas
 mod PagesLemmas
 mod AheadLemmas
 mod LetterLemmas

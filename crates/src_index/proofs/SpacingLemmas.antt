@@ -8,7 +8,7 @@ use Rattle.ogg_link.specs.Progress.{counted, key_after, one_more}
 use Rattle.thr_ident.specs.Header.{Header}
 use Rattle.thr_setup.specs.Setup.{Contents}
 use Rattle.src_index.specs.Said.{Said, Start, WithIdent, WithComment, WithSetup, shift_of, said_count}
-use Rattle.src_index.specs.Spacing.{behind, gap, Close, BeginsWithKey}
+use Rattle.ogg_link.specs.Spacing.{behind, gap, Close, BeginsWithKey}
 use Rattle.src_index.specs.Checks.{packet_step, frame_step, is_near, most_packets}
 use Rattle.src_index.specs.Index.{Frame}
 use Rattle.src_index.specs.Kept.{Kept, with_end, with_header, with_frame, frame_from}

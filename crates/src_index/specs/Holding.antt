@@ -7,7 +7,7 @@ use Rattle.src_index.specs.declared.packets.Frame.{Frame}
 use Rattle.src_index.specs.Index.{Place as PlaceIn, Frame as FrameIn}
 use Rattle.src_index.specs.Headers.{packets_in, said_of}
 use Rattle.src_index.specs.Said.{shift_of}
-use Rattle.src_index.specs.Spacing.{AreSpaced, gap}
+use Rattle.ogg_link.specs.Spacing.{AreSpaced, gap}
 use Rattle.src_index.specs.Pages.{marks_of}
 use Rattle.src_index.specs.Kept.{Kept}
 

@@ -1,7 +1,7 @@
 -- The index of a judged file: what is kept of it in place of its bytes (own).
 use Rattle.std.specs.Prelude.{ℕ, Bool, false, List, IfOk, length, map, get_or}
 use Rattle.thr_ident.specs.Ident.{ident_of}
-use Rattle.src_index.specs.Spacing.{AreSpaced}
+use Rattle.ogg_link.specs.Spacing.{AreSpaced}
 
 -- a page of the track: the byte at which it begins, its checksum field and its lacing values
 pub record PageMark : Type 0 where

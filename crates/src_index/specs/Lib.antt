@@ -1,6 +1,5 @@
 pub mod Track
 pub mod Said
-pub mod Spacing
 pub mod Quantiser
 pub mod Index
 pub mod Seekable

@@ -5,7 +5,7 @@ ghost use Rattle.ogg_link.specs.Walk.{is_of_track};
 ghost use Rattle.src_index.specs.Judge.{nothing, page_checks, packets_on, end_check};
 ghost use Rattle.src_index.specs.Refusing.{RefusesAs};
 ghost use Rattle.src_index.specs.Said.{shift_of};
-ghost use Rattle.src_index.specs.Spacing.{AreSpaced};
+ghost use Rattle.ogg_link.specs.Spacing.{AreSpaced};
 ghost use Rattle.src_index.specs.Headers.{said_of};
 ghost use Rattle.src_index.specs.Holding.{kept_of};
 ghost use Rattle.src_index.specs.Kept.{page_kept};

@@ -1,6 +1,6 @@
 //! Laws of the definitions that contracts here cite. These functions do nothing: their clauses name lemmas of `proofs/`,
 //! which the proofs of crates above cite.
-ghost use Rattle.std.specs.Prelude.{◌≡◌, ◌≤◌, ◌<◌, ◌+◌, ◌^◌, ℕ, List, All, Ok, IsOk, None, nat_lt, length, map};
+ghost use Rattle.std.specs.Prelude.{◌≡◌, ◌≤◌, ◌<◌, ◌+◌, ◌^◌, ◌∷◌, ℕ, List, All, Ok, IsOk, None, nat_lt, length, map};
 ghost use Rattle.ogg_link.specs.Track.{is_key};
 ghost use Rattle.src_index.specs.Index.{Index, frame_count, keys_of, quantisers_of};
 ghost use Rattle.thr_ident.specs.Header.{Header};
@@ -11,15 +11,30 @@ ghost use Rattle.thr_ident.specs.Shape.{shape_of};
 ghost use Rattle.thr_frame.specs.Parsed.{frame_in};
 ghost use Rattle.thr_frame.specs.Step.{state_after};
 ghost use Rattle.src_index.specs.Track.{frames_of, frame_at, packet_at};
-ghost use Rattle.src_index.specs.Spacing.{AreSpaced};
+ghost use Rattle.ogg_link.specs.Spacing.{AreSpaced};
 ghost use Rattle.src_index.specs.Checks.{AreFaultless};
 ghost use Rattle.src_index.specs.Quantiser.{quantisers};
 ghost use Rattle.src_index.specs.Gather.{IsIndexOf};
 ghost use Rattle.src_index.specs.Judge.{Judged, Verdict};
+ghost use Rattle.ogg_page.specs.Page.{Page, ArePages};
+ghost use Rattle.ogg_page.specs.Packets.{packets_of};
+ghost use Rattle.ogg_link.specs.Walk.{start};
+ghost use Rattle.ogg_mux.specs.OutputPages.{Stream, paged};
+ghost use Rattle.ogg_mux.specs.Walked.{HasRoom, GoesOver};
 
 /// A file has one verdict, so whatever loading answers is all that can be said of it.
 pub fn verdicts()
     ensures { (bytes : List ℕ) (v w : Verdict) → Judged bytes v → Judged bytes w → v ≡ w }
+{}
+
+/// Pages over which a walk goes without a fault, with packets that have none, are judged as a file with these packets. So are
+/// the bytes of a stream: of its checks all pass but those on what the packets say.
+pub fn written_pages()
+    ensures pages { (header : Header) (bytes ident : List ℕ) (more : List (List ℕ)) (pages : List Page) → ArePages bytes pages → packets_of pages ≡ ident ∷ more
+        → ident_of ident ≡ Ok header → GoesOver header.shift start pages → AreFaultless (ident ∷ more) → Judged bytes (Ok (ident ∷ more)) }
+    ensures stream { (least : ℕ) (stream : Stream) (frames : List (List ℕ)) (header : Header) → HasRoom stream frames → length stream.ident < 65025
+        → ident_of stream.ident ≡ Ok header → header.shift ≡ stream.shift → AreFaultless (stream.ident ∷ stream.comment ∷ stream.setup ∷ frames)
+        → Judged (paged least stream frames) (Ok (stream.ident ∷ stream.comment ∷ stream.setup ∷ frames)) }
 {}
 
 /// What the index of a file says of its packets: how many frames there are, which of them are key frames, their quantisers,

@@ -5,7 +5,7 @@ ghost use Rattle.thr_ident.specs.Ident.{ident_of, header_of};
 ghost use Rattle.thr_setup.specs.Setup.{setup_of, contents};
 ghost use Rattle.src_index.specs.Index.{Index, frame_count, key_at, quantiser_at, link_count, HasSpacing};
 ghost use Rattle.src_index.specs.Said.{shift_of};
-ghost use Rattle.src_index.specs.Spacing.{AreSpaced};
+ghost use Rattle.ogg_link.specs.Spacing.{AreSpaced};
 ghost use Rattle.src_index.specs.Headers.{said_of};
 ghost use Rattle.src_index.specs.Holding.{kept_of};
 ghost use Rattle.src_index.specs.Judging.{GoesOn, Follows};
@@ -43,7 +43,7 @@ pub struct Source {
 
 impl Model for Source {
     ghost use Rattle.std.specs.Prelude.{map};
-    ghost use Rattle.src_index.specs.Spacing.{AreSpaced};
+    ghost use Rattle.ogg_link.specs.Spacing.{AreSpaced};
     ghost use Rattle.src_index.specs.Index.{Index};
     ghost use Rattle.src_index.specs.Pages.{marks_of};
     ghost use Rattle.src_index.specs.Holding.{frame_of};
