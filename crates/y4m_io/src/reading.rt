@@ -53,7 +53,7 @@ impl Y4m {
     pub fn start<D: Desk>(alloc: Global, desk: &mut D, id: u32) -> Result<Y4m, Y4mFault>
         requires id { id < (D.sees desk.old).found }
         ensures started { IfOk result (λ y. Told (D.sees desk.old) id (λ bytes. IsStart bytes (progress_of y))) }
-        ensures input { IfOk result (λ y. ((progress_of y).input ≡ id) × IsOfInput (D.sees desk.old) (progress_of y)) }
+        ensures input { IfOk result (λ y. ((progress_of y).input ≡ id) × IsOfInput (D.sees desk.new) (progress_of y)) }
         ensures fault { OnErr result (Told (D.sees desk.old) id (StopsIn result)) }
         ensures numbered { IsNumbered 0 result }
         ensures kept { with_reads (D.sees desk.old) (D.sees desk.new) }
