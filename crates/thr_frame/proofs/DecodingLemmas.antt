@@ -6,7 +6,7 @@ use Rattle.vid_base.specs.declared.fault.PacketFault.{PacketFault}
 use Rattle.vid_base.specs.declared.fault.PacketFault.TheVariants.{FirstNotKey}
 use Rattle.vid_base.specs.Reading.{◌>>=◌}
 use Rattle.vid_plane.specs.Picture.{blank}
-use Rattle.vid_plane.specs.Frames.{References, AreOf, blank_frame, blank_plane}
+use Rattle.vid_plane.specs.Frames.{References, blank_frame, blank_plane}
 use Rattle.thr_ident.specs.declared.ident.Ident.{Ident}
 use Rattle.thr_setup.specs.Setup.{Contents}
 use Rattle.thr_frame.specs.CodedFrame.{CodedFrame}

@@ -1,8 +1,6 @@
 -- Intra frames need no frame before them, so a key packet's step is the same from every state. The laws cite these.
-use Rattle.std.proofs.Common.{◌≡◌, ◌∙◌, ℕ, ◌+◌, ◌*◌, ◌/◌, ◌%◌, ◌<◌, ◌==◌, Bool, true, false, not, List, [], ◌∷◌, length, replicate, get_or, Option, Some, None, Result, Ok, Err, refl, ap, sym, arith, if◌then◌else◌}
-use Rattle.std.specs.List.{range_with_len}
+use Rattle.std.proofs.Common.{◌≡◌, ◌∙◌, ℕ, ◌*◌, ◌/◌, ◌%◌, ◌<◌, ◌==◌, Bool, true, false, not, List, [], ◌∷◌, length, replicate, get_or, Option, Some, None, Result, Ok, Err, refl, ap, sym, arith}
 use Rattle.std.proofs.lemmas.Bool.{eqb-true, true≢false}
-use Rattle.std.proofs.lemmas.Bool.Decides.{nat_tests}
 use Rattle.std.proofs.lemmas.List.{get_or-replicate}
 use Rattle.std.proofs.lemmas.List.FromFn.{length-map-range_with_len}
 use Rattle.vid_base.specs.declared.shape.Shape.{Shape}
@@ -10,12 +8,11 @@ use Rattle.vid_base.specs.declared.fault.PacketFault.{PacketFault}
 use Rattle.vid_base.specs.Bits.{bit_of, bits_of}
 use Rattle.vid_base.specs.Reading.{◌>>=◌}
 use Rattle.vid_base.specs.Sizes.{plane_width, plane_height}
-use Rattle.vid_geom.specs.CodedOrder.{IsBlock, block_columns, block_rows, order_of, place_of}
+use Rattle.vid_geom.specs.CodedOrder.{IsBlock, order_of, place_of}
 use Rattle.vid_geom.specs.MacroBlocks.{macro_blocks}
 use Rattle.vid_geom.specs.ByBlock.{macro_place}
 use Rattle.vid_geom.proofs.OrderLemmas.{place_below, not_true}
 use Rattle.vid_geom.proofs.SizeLemmas.{plane_width_is, plane_height_is}
-use Rattle.vid_plane.specs.Picture.{Picture, pixel}
 use Rattle.vid_plane.specs.declared.frame.Frame.{Frame}
 use Rattle.vid_plane.proofs.PaintLemmas.{same_picture}
 use Rattle.vid_plane.proofs.PictureLemmas.{pixel-sealed_picture}
@@ -23,7 +20,7 @@ use Rattle.thr_setup.specs.Setup.{Contents}
 use Rattle.thr_recon.specs.Rebuilt.{rebuilt}
 use Rattle.thr_frame.specs.FrameHead.{FrameHead, head_of}
 use Rattle.thr_frame.specs.CodedFrame.{CodedFrame, intra_mode}
-use Rattle.thr_frame.specs.Parsed.{Motion, Residue, coded_in, fields_of, frame_in, intra_motion, is_inter, joined_fields, motion_of, needs_frame, packet_in, parsed, residue_of, with_dc_values}
+use Rattle.thr_frame.specs.Parsed.{Motion, coded_in, fields_of, frame_in, intra_motion, is_inter, joined_fields, motion_of, packet_in, parsed, residue_of, with_dc_values}
 use Rattle.thr_frame.specs.Rebuilt.{Pair, block_at, mode_at, predictor_at, rebuilt_frame, residual_at, unfiltered, unfiltered_at, unfiltered_plane}
 use Rattle.thr_frame.specs.Step.{behind, is_key, next_state, pair_of, step, with_frame}
 use Rattle.thr_frame.proofs.StepLemmas.{both, ok_same}

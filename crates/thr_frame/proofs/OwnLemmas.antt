@@ -1,6 +1,6 @@
 -- Blocks and their macro blocks, plane by plane: the loops over macro blocks cite these.
-use Rattle.std.proofs.Common.{◌≡◌, ◌⊎◌, inl, inr, ℕ, zero, suc, ◌==◌, ◌+◌, ◌*◌, ◌<◌, ◌≤◌, List, ◌++◌, length, get_or, map, take, Option, None, Some, slice_get, replicate, ◌-◌, refl, sym, ap, subst, arith, ◌∙◌, if◌then◌else◌}
-use Rattle.std.specs.List.{All, Contains}
+use Rattle.std.proofs.Common.{◌≡◌, inl, inr, ℕ, zero, suc, ◌*◌, ◌<◌, ◌≤◌, List, ◌++◌, length, get_or, map, take, Option, None, Some, slice_get, replicate, ◌-◌, refl, sym, ap, subst, arith, ◌∙◌}
+use Rattle.std.specs.List.{Contains}
 use Rattle.std.proofs.lemmas.List.{length-map, get_or-map, get_or-take, length-take-le, take-append-le, take_all}
 use Rattle.std.proofs.lemmas.List.Elements.{All-contains, Contains-get_or, Contains-append_cases, Contains-append_left, Contains-append_right}
 use Rattle.std.specs.Option.{IsSomeAnd}
@@ -8,7 +8,7 @@ use Rattle.std.proofs.lemmas.Option.{slice_get_within, slice_get-map, slice_get-
 use Rattle.vid_base.specs.declared.shape.Shape.{Shape}
 use Rattle.vid_geom.specs.declared.block.Block.{Block}
 use Rattle.vid_geom.specs.Squares.{Cell, cell, cells, moved}
-use Rattle.vid_geom.specs.CodedOrder.{IsBlock, block_of, order_of, place_of}
+use Rattle.vid_geom.specs.CodedOrder.{IsBlock, block_of, place_of}
 use Rattle.vid_geom.specs.declared.block.MacroBlock.{MacroBlock}
 use Rattle.vid_geom.specs.MacroBlocks.{IsMacroBlock, filled, Area, area_at, area_blocks, blocks_in, columns_in, rows_in, macro_blocks, macro_grid, macro_order, raster}
 use Rattle.vid_geom.specs.ByBlock.{macro_place}

@@ -1,9 +1,9 @@
 -- The frames that a decoder keeps behind one more. `rebuild_frame` and `Decoder::step` cite these.
-use Rattle.std.proofs.Common.{◌≡◌, ◌∙◌, Bool, true, false, refl, sym, subst, ap, if◌then◌else◌}
+use Rattle.std.proofs.Common.{◌≡◌, Bool, true, false, refl, sym, subst, if◌then◌else◌}
 use Rattle.std.specs.Bool.{OnFalse, OnTrue}
 use Rattle.vid_base.specs.declared.shape.Shape.{Shape}
 use Rattle.vid_plane.specs.Picture.{sealed_picture}
-use Rattle.vid_plane.specs.Frames.{References, sealed_frame, blank_frame}
+use Rattle.vid_plane.specs.Frames.{References, sealed_frame}
 use Rattle.vid_plane.specs.declared.frame.Frame.{Frame}
 use Rattle.thr_setup.specs.Setup.{Contents}
 use Rattle.thr_frame.specs.CodedFrame.{CodedFrame}

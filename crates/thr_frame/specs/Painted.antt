@@ -1,10 +1,10 @@
 -- (private) A plane whose blocks are rebuilt, macro block after macro block: which of its samples are done. m is the macro block that is rebuilt, and
 -- places are the coded places of those of its blocks that are done; s, setup, refs, c and pli are as in Rebuilt, and p is what the plane shows.
-use Rattle.std.specs.Prelude.{◌≡◌, ◌⊎◌, ℕ, ◌*◌, ◌+◌, ◌<◌, ◌==◌, Bool, true, false, List, [], length, get_or, if◌then◌else◌}
+use Rattle.std.specs.Prelude.{◌≡◌, ◌⊎◌, ℕ, ◌*◌, ◌+◌, ◌<◌, ◌==◌, true, false, List, [], length, get_or, if◌then◌else◌}
 use Rattle.std.specs.List.{Contains}
 use Rattle.vid_base.specs.declared.shape.Shape.{Shape}
 use Rattle.vid_geom.specs.declared.block.Block.{Block}
-use Rattle.vid_geom.specs.CodedOrder.{IsBlock, order_of, place_of}
+use Rattle.vid_geom.specs.CodedOrder.{IsBlock, place_of}
 use Rattle.vid_geom.specs.MacroBlocks.{Area}
 use Rattle.vid_geom.specs.ByBlock.{macro_place}
 use Rattle.vid_plane.specs.Picture.{Picture, pixel}

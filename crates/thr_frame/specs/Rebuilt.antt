@@ -1,6 +1,6 @@
 -- A frame rebuilt from what its packet says, sample by sample (Theora I, 7.9.4). s is the frame's shape, setup what the setup header says,
 -- c the coded frame; pli is the plane, and x and y count its columns from the left and its rows from the lowest.
-use Rattle.std.specs.Prelude.{ℕ, ◌+◌, ◌*◌, ◌/◌, ◌%◌, ◌==◌, ◌&&◌, ℤ, pos, ◌+ℤ◌, Bool, true, false, not, List, [], map, get_or, if◌then◌else◌}
+use Rattle.std.specs.Prelude.{ℕ, ◌*◌, ◌/◌, ◌%◌, ◌==◌, ◌&&◌, ℤ, Bool, false, not, List, [], map, get_or, if◌then◌else◌}
 use Rattle.std.specs.List.{range_with_len}
 use Rattle.vid_base.specs.declared.shape.Shape.{Shape}
 use Rattle.vid_base.specs.Sizes.{plane_width, plane_height}
@@ -12,7 +12,7 @@ use Rattle.vid_plane.specs.Frames.{References, plane_of, sealed_frame}
 use Rattle.vid_plane.specs.declared.frame.Frame.{Frame}
 use Rattle.thr_setup.specs.Setup.{Contents}
 use Rattle.thr_quant.specs.Matrix.{matrix_at}
-use Rattle.thr_modes.specs.Vectors.{Offset, still}
+use Rattle.thr_modes.specs.Vectors.{still}
 use Rattle.thr_recon.specs.Predicted.{flat, predicted_by}
 use Rattle.thr_recon.specs.Residual.{residual_of}
 use Rattle.thr_recon.specs.Rebuilt.{rebuilt}

@@ -1,6 +1,6 @@
 -- The decoding of frames one after another (Theora I, 7.11): each packet is a step from a state to the next, or has a first fault. A state is
 -- None before the first frame, and else the previous and the golden frame; the frame that is shown behind a step is the previous frame then.
-use Rattle.std.specs.Prelude.{ℕ, ◌≡◌, ◌/◌, ◌==◌, Bool, false, List, [], ◌∷◌, ◌++◌, Option, Some, None, Result, Ok, Err, is_some, if◌then◌else◌}
+use Rattle.std.specs.Prelude.{ℕ, ◌≡◌, ◌/◌, ◌==◌, Bool, false, List, [], ◌∷◌, ◌++◌, Option, Some, None, Result, Ok, is_some, if◌then◌else◌}
 use Rattle.vid_base.specs.declared.shape.Shape.{Shape}
 use Rattle.vid_base.specs.declared.fault.PacketFault.{PacketFault}
 use Rattle.vid_base.specs.Reading.{◌>>=◌}

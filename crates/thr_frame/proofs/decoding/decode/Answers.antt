@@ -1,4 +1,4 @@
-use Rattle.std.proofs.Common.{◌≡◌, ◌∙◌, Result, Ok, ap, sym}
+use Rattle.std.proofs.Common.{◌∙◌, Result, Ok, ap, sym}
 use Rattle.vid_base.specs.declared.fault.PacketFault.{PacketFault}
 use Rattle.vid_base.specs.Reading.{◌>>=◌}
 use Rattle.thr_setup.specs.Setup.{contents}

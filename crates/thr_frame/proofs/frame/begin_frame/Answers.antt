@@ -1,4 +1,4 @@
-use Rattle.std.proofs.Common.{◌≡◌, refl, arith}
+use Rattle.std.proofs.Common.{refl, arith}
 use Rattle.thr_frame.specs.CodedFrame.{frame_of}
 use Rattle.thr_frame.specs.Sources.{refs_of}
 use Rattle.thr_frame.proofs.PaintedLemmas.{shows_intra}

@@ -1,4 +1,4 @@
-use Rattle.std.proofs.Common.{◌≡◌, ◌∙◌, sym, subst, ap}
+use Rattle.std.proofs.Common.{◌≡◌, ◌∙◌, sym, subst}
 use Rattle.std.specs.Bool.{OnTrue}
 use Rattle.vid_plane.specs.Frames.{sealed_frame}
 use Rattle.vid_plane.specs.declared.frame.Frame.{Frame}

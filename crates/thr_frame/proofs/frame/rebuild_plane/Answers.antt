@@ -1,4 +1,4 @@
-use Rattle.std.proofs.Common.{◌≡◌, refl}
+use Rattle.std.proofs.Common.{refl}
 use Rattle.thr_setup.specs.Setup.{contents}
 use Rattle.thr_frame.specs.CodedFrame.{frame_of}
 use Rattle.thr_frame.specs.Sources.{refs_of}

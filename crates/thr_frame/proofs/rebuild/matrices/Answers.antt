@@ -1,4 +1,4 @@
-use Rattle.std.proofs.Common.{◌≡◌, ◌∙◌, get_or, ap, arith, length-set}
+use Rattle.std.proofs.Common.{◌∙◌, get_or, ap, arith, length-set}
 use Rattle.thr_quant.specs.Matrix.{matrix_at}
 use Rattle.thr_frame.specs.CodedFrame.{frame_of}
 use Rattle.thr_frame.proofs.MatrixLemmas.{matrices_more}

@@ -1,4 +1,4 @@
-use Rattle.std.proofs.Common.{◌≡◌, ℕ, ◌<◌, ◌≤◌, ◌+◌, ◌*◌, [], length, get_or}
+use Rattle.std.proofs.Common.{◌≡◌, ℕ, ◌<◌, ◌+◌, ◌*◌, [], length, get_or}
 use Rattle.thr_quant.specs.Matrix.{matrix_at}
 use Rattle.thr_frame.proofs.rebuild.matrices.Given as goal
 

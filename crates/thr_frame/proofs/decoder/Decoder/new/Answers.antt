@@ -1,6 +1,5 @@
-use Rattle.std.proofs.Common.{◌≡◌, ◌∙◌, sym, refl, subst}
-use Rattle.thr_frame.specs.Painted.{AreSealed}
-use Rattle.thr_frame.specs.Ready.{IsStore, AreLists}
+use Rattle.std.proofs.Common.{◌≡◌, sym, refl, subst}
+use Rattle.thr_frame.specs.Ready.{IsStore}
 use Rattle.thr_frame.proofs.DecodingLemmas.{blank_sealed}
 use Rattle.thr_frame.proofs.decoder.Decoder.new.Goals as goal
 

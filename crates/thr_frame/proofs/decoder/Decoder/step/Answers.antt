@@ -1,9 +1,7 @@
-use Rattle.std.proofs.Common.{◌≡◌, ◌∙◌, ◌&&◌, ◌==◌, not, false, sym, subst, ap, length, Err, IfErr, Result, Ok}
+use Rattle.std.proofs.Common.{◌≡◌, ◌∙◌, sym, subst, Err}
 use Rattle.std.proofs.lemmas.Result.{err_from_is_err_and}
-use Rattle.vid_base.specs.declared.fault.PacketFault.{PacketFault}
 use Rattle.vid_base.specs.declared.fault.PacketFault.TheVariants.{FirstNotKey}
 use Rattle.thr_setup.specs.Setup.{contents}
-use Rattle.thr_frame.specs.Parsed.{needs_frame, coded_in}
 use Rattle.thr_frame.specs.Step.{state_of, step}
 use Rattle.thr_frame.specs.Decoding.{Decoding, IsNext}
 use Rattle.thr_frame.proofs.DecodingLemmas.{step_refused, step_faulty, repeat_next, decoded_next}

@@ -1,9 +1,8 @@
-use Rattle.std.proofs.Common.{◌≡◌, ◌∙◌, ◌*◌, ◌<◌, length, get_or, map, refl, sym, ap, arith}
-use Rattle.std.proofs.lemmas.List.{get_or-map, get_or_read, length-map}
-use Rattle.vid_geom.specs.CodedOrder.{order_of, place_of}
+use Rattle.std.proofs.Common.{◌≡◌, ◌∙◌, ◌<◌, length, get_or, map, sym, ap, arith}
+use Rattle.std.proofs.lemmas.List.{get_or-map, length-map}
 use Rattle.vid_geom.proofs.OrderLemmas.{place_below}
 use Rattle.thr_modes.specs.Vectors.{offset_of, still}
-use Rattle.thr_recon.specs.Predicted.{shown, predicted, predicted_by}
+use Rattle.thr_recon.specs.Predicted.{shown, predicted}
 use Rattle.thr_frame.specs.CodedFrame.{frame_of}
 use Rattle.thr_frame.specs.Sources.{refs_of}
 use Rattle.thr_frame.proofs.PredictorLemmas.{flat_is, led_is}

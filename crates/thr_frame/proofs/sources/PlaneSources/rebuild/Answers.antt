@@ -1,5 +1,4 @@
-use Rattle.std.proofs.Common.{◌≡◌, ◌∙◌, ◌*◌, ◌<◌, ℕ, ℤ, List, ◌∷◌, [], ◌++◌, length, get_or, true, false, refl, sym, ap, subst, arith}
-use Rattle.std.specs.List.{Contains}
+use Rattle.std.proofs.Common.{◌≡◌, ◌∙◌, ◌*◌, ◌<◌, ℕ, ℤ, List, ◌∷◌, [], ◌++◌, length, get_or, true, false, sym, ap, subst, arith}
 use Rattle.std.proofs.lemmas.List.{get_or_read}
 use Rattle.vid_geom.specs.CodedOrder.{place_of}
 use Rattle.vid_plane.specs.Paints.{Paints}
@@ -7,7 +6,7 @@ use Rattle.thr_setup.specs.Setup.{contents}
 use Rattle.thr_recon.specs.Predicted.{shown}
 use Rattle.thr_recon.specs.Rebuilt.{rebuilt}
 use Rattle.thr_frame.specs.CodedFrame.{frame_of}
-use Rattle.thr_frame.specs.Rebuilt.{mode_at, predictor_at, residual_at, residual_by}
+use Rattle.thr_frame.specs.Rebuilt.{predictor_at, residual_at, residual_by}
 use Rattle.thr_frame.specs.Painted.{IsPainted}
 use Rattle.thr_frame.specs.Sources.{refs_of}
 use Rattle.thr_frame.proofs.PaintedLemmas.{painted_more, uncoded_more}

@@ -1,6 +1,6 @@
-use Rattle.std.proofs.Common.{◌≡◌, ◌∙◌, ◌<◌, ◌∷◌, ◌++◌, [], length, get_or, map, take, slice_get, sym, ap, subst, arith}
+use Rattle.std.proofs.Common.{◌≡◌, ◌∙◌, get_or, map, take, slice_get, sym, ap, subst, arith}
 use Rattle.std.proofs.lemmas.List.{get_or_read, take_more}
-use Rattle.vid_geom.specs.CodedOrder.{place_of, order_of}
+use Rattle.vid_geom.specs.CodedOrder.{place_of}
 use Rattle.vid_geom.specs.MacroBlocks.{macro_blocks}
 use Rattle.vid_geom.proofs.OrderLemmas.{place_apart, place_below}
 use Rattle.thr_setup.specs.Setup.{contents}

@@ -1,5 +1,3 @@
-use Rattle.std.proofs.Common.{◌≡◌, ◌∙◌, sym, ap, rules}
-use Rattle.vid_plane.specs.Frames.{IsPlaneOf}
 use Rattle.thr_frame.proofs.PredictorLemmas.{plane_sealed, plane_sized}
 use Rattle.thr_frame.proofs.sources.PlaneSources.reference.Goals as goal
 
