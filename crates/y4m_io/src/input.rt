@@ -57,7 +57,7 @@ impl Input {
         Ok(count)
     }
 
-    /// The same, to the front of a list.
+    /// Reads the bytes from `at` on to the front of a list, as many as there are, but no more than that, and gives their number.
     pub(crate) fn read_front<D: Desk>(
         &self,
         desk: &mut D,

@@ -1,7 +1,9 @@
 //! Pictures and YUV4MPEG2 (own): pictures of three planes, rows from the top, and the text that carries them.
 //!
-//! Above this crate only this is used: `Picture::crop` gives `crop_of` a decoded frame; `write_head` and `write_frame` append
-//! `head_text` and `frame_text`, so that an output is `y4m_of` its pictures.
+//! Above this crate only this is used: `Picture::crop` gives `crop_of` a decoded frame, and `pad` puts a picture into one as
+//! `pad_of` says; `write_head` and `write_frame` append `head_text` and `frame_text`, so that an output is `y4m_of` its
+//! pictures; what `Y4m::start` and `next` answer is the one head, pictures and departure of which an input `IsY4m`; and
+//! `make_frame` fills a picture as `generated`.
 #![tactic(auto)]
 
 mod crop;

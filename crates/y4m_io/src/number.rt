@@ -59,7 +59,7 @@ pub(crate) fn number_within(text: &[u8], least: u64, most: u64) -> Option<u64>
     Some(n)
 }
 
-// The same, as a number of 32 bits.
+// Such a number, where 32 bits hold the most.
 fn small(text: &[u8], least: u32, most: u32) -> Option<u32>
     ensures value { result ≡ number_within least most (number_of text.now) }
     ensures bounds { IfSome result (λ n. (least ≤ n) × (n ≤ most)) }
