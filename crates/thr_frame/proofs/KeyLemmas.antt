@@ -17,11 +17,11 @@ use Rattle.thr_frame.specs.Parsed.{Motion, Residue, coded_in, fields_of, frame_i
 use Rattle.thr_frame.proofs.StepLemmas.{both, ok_same}
 
 -- the second bit of a byte whose first is 0
-second_bit : (byte : ℕ) → byte < 256 → bit_of 7 byte ≡ false → bit_of 6 byte ≡ is_inter byte
+pub second_bit : (byte : ℕ) → byte < 256 → bit_of 7 byte ≡ false → bit_of 6 byte ≡ is_inter byte
 second_bit byte h e = grind (arith, nat_tests)
 
 -- what the head says
-head_intra : (byte : ℕ) (bytes : List ℕ) (read : FrameHead × List Bool) → head_of (bits_of (byte ∷ bytes)) ≡ Ok read → (bit_of 7 byte ≡ false) × (read.0.intra ≡ not (bit_of 6 byte))
+pub head_intra : (byte : ℕ) (bytes : List ℕ) (read : FrameHead × List Bool) → head_of (bits_of (byte ∷ bytes)) ≡ Ok read → (bit_of 7 byte ≡ false) × (read.0.intra ≡ not (bit_of 6 byte))
 unfolding head_of bits_of one_bit
 head_intra byte bytes read e = go (bit_of 7 byte) refl e
   where

@@ -12,3 +12,6 @@ pub mod FilteredLemmas
 pub mod StateLemmas
 pub mod DecodingLemmas
 pub mod KeyLemmas
+pub mod IntraLemmas
+pub mod FramesLemmas
+pub mod ShapeLemmas

@@ -144,7 +144,8 @@ macro_more setup s refs c pli m places p h all before = record {
     ]
     was b is e (inr (inr none)) = absurd (omega (arith, none.1))
 
-pixel_of_unfiltered : (setup : Contents) (s : Shape) (refs : Pair) (c : CodedFrame) (pli x y : ℕ) → x < plane_width s.fmbw s.pf pli → y < plane_height s.fmbh s.pf pli
+-- the samples of the plane as they are defined
+pub pixel_of_unfiltered : (setup : Contents) (s : Shape) (refs : Pair) (c : CodedFrame) (pli x y : ℕ) → x < plane_width s.fmbw s.pf pli → y < plane_height s.fmbh s.pf pli
     → pixel (sealed_picture (unfiltered_plane setup s refs c pli)) x y ≡ unfiltered_at setup s refs c pli x y
 unfolding unfiltered_plane pixel sealed_picture
 pixel_of_unfiltered setup s refs c pli x y hx hy =

@@ -1,6 +1,6 @@
 -- The decoding of frames one after another (Theora I, 7.11): each packet is a step from a state to the next, or has a first fault. A state is
 -- None before the first frame, and else the previous and the golden frame; the frame that is shown behind a step is the previous frame then.
-use Rattle.std.specs.Prelude.{ℕ, Bool, List, [], ◌∷◌, Option, Some, None, Result, Ok, Err, is_some, if◌then◌else◌}
+use Rattle.std.specs.Prelude.{ℕ, ◌≡◌, ◌/◌, ◌==◌, Bool, false, List, [], ◌∷◌, ◌++◌, Option, Some, None, Result, Ok, Err, is_some, if◌then◌else◌}
 use Rattle.vid_base.specs.declared.shape.Shape.{Shape}
 use Rattle.vid_base.specs.declared.fault.PacketFault.{PacketFault}
 use Rattle.vid_base.specs.Reading.{◌>>=◌}
@@ -46,3 +46,26 @@ frames_from setup s state (packet ∷ packets) = step setup s state packet >>= (
 -- the state that a decoder's frames are
 abbrev pub state_of : References → Option Pair
 state_of r = if r.started then Some (pair_in r) else None
+
+-- a key packet has a byte, and its first two bits are 0
+abbrev pub is_key : List ℕ → Bool
+is_key [] = false
+is_key (byte ∷ bytes) = byte / 64 == 0
+
+-- the state behind packets, and then behind one more
+abbrev pub state_with : Contents → Shape → Option Pair → List (List ℕ) → List ℕ → Result (Option Pair) PacketFault
+state_with setup s state packets packet = state_after setup s state packets >>= (λ middle. step setup s middle packet >>= (λ next. Ok (Some next)))
+
+-- the state behind packets, and then behind others
+abbrev pub state_through : Contents → Shape → Option Pair → List (List ℕ) → List (List ℕ) → Result (Option Pair) PacketFault
+state_through setup s state first others = state_after setup s state first >>= (λ middle. state_after setup s middle others)
+
+-- the frames of packets, and then of others
+abbrev pub frames_through : Contents → Shape → Option Pair → List (List ℕ) → List (List ℕ) → Result (List Frame) PacketFault
+frames_through setup s state first others = state_after setup s state first >>= (λ middle. frames_from setup s state first >>= (λ fs. frames_from setup s middle others >>= (λ gs. Ok (fs ++ gs))))
+
+-- a frame is the previous one of the state behind these packets
+pub record IsShownBehind (setup : Contents) (s : Shape) (state : Option Pair) (packets : List (List ℕ)) (frame : Frame) : Type 0 where
+  pub pair : Pair
+  pub behind : state_after setup s state packets ≡ Ok (Some pair)
+  pub shown : frame ≡ pair.prev

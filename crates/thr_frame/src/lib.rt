@@ -31,4 +31,6 @@ pub use parsing::{parse_frame, parse_into};
 pub use work::Work;
 
 #[cfg(test)]
+mod decoder_tests;
+#[cfg(test)]
 mod parse_tests;
