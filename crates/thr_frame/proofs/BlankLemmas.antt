@@ -1,14 +1,13 @@
 -- Blocks that are not coded take no token, so that their values stay 0. The reader of a frame's residue cites these.
-use Rattle.std.proofs.Common.{◌≡◌, ◌∙◌, ℕ, zero, suc, ◌+◌, ◌<◌, ◌≤◌, ℤ, pos, Bool, true, false, List, [], ◌∷◌, ◌++◌, length, length-append, get_or, map, replicate, Result, Ok, Err, refl, ap, sym, arith, append_assoc, append-nil}
+use Rattle.std.proofs.Common.{◌≡◌, ◌∙◌, ℕ, zero, suc, ◌+◌, ◌<◌, ◌≤◌, ℤ, pos, Bool, false, List, [], ◌∷◌, ◌++◌, length, map, replicate, Result, Ok, refl, ap, sym, arith, append_assoc, append-nil}
 use Rattle.std.specs.Prelude.{⊤, ◌==◌}
 use Rattle.std.proofs.lemmas.Bool.Decides.{nat_tests}
 use Rattle.vid_base.specs.declared.fault.PacketFault.{PacketFault}
 use Rattle.vid_base.specs.declared.shape.Shape.{Shape}
-use Rattle.vid_base.specs.Reading.{◌>>=◌}
 use Rattle.vid_geom.specs.declared.block.Block.{Block}
 use Rattle.vid_geom.specs.CodedOrder.{order_of}
 use Rattle.thr_huff.specs.CodeTree.{CodeTree}
-use Rattle.thr_token.specs.Coefficients.{Progress, Source, at_place, coefficients, first_place, is_luma, numbers_in, places, results_of, token_in, turn, unended, untouched, untouched_blocks, visit}
+use Rattle.thr_token.specs.Coefficients.{Progress, Source, at_place, coefficients, numbers_in, places, results_of, token_in, unended, untouched_blocks, visit}
 use Rattle.thr_token.specs.Tokenised.{AreBlank}
 use Rattle.thr_frame.proofs.StepLemmas.{both, ok_same}
 

@@ -1,15 +1,13 @@
 -- The rounds in which blocks move up: counting, moving, and how far. `places.rt` cites these.
-use Rattle.std.proofs.Common.{◌≡◌, ◌∙◌, ℕ, zero, suc, ◌+◌, ◌-◌, ◌<◌, ◌≤◌, Bool, true, false, List, [], ◌∷◌, ◌++◌, length, take, drop, get_or, replicate, Result, Ok, Err, refl, ap, sym, arith, append_assoc}
-use Rattle.std.specs.Prelude.{if◌then◌else◌, slice_set}
+use Rattle.std.proofs.Common.{◌≡◌, ℕ, zero, suc, ◌+◌, ◌-◌, ◌<◌, ◌≤◌, Bool, true, false, List, [], ◌∷◌, ◌++◌, length, take, drop, get_or, Ok, Err, refl, arith, append_assoc}
+use Rattle.std.specs.Prelude.{if◌then◌else◌}
 use Rattle.std.specs.List.{All}
 use Rattle.std.proofs.lemmas.Bool.Decides.{nat_tests}
 use Rattle.std.proofs.lemmas.List.{append-nil, drop_all, take_all}
 use Rattle.std.proofs.lemmas.List.Elements.{All-nil, All-head, All-tail, All-cons}
 use Rattle.std.proofs.Math.Seq.{drop-cons, take-suc}
 use Rattle.vid_base.specs.declared.fault.PacketFault.{PacketFault}
-use Rattle.vid_base.specs.Reading.{◌>>=◌}
-use Rattle.thr_flags.specs.RunStrings.{long_string}
-use Rattle.thr_frame.specs.QuantiserPlaces.{moved_up, places_of, round, rounds, standing, stands}
+use Rattle.thr_frame.specs.QuantiserPlaces.{moved_up, round, rounds, standing, stands}
 
 -- a block that stands at a place has it
 pub stands_at : (place : ℕ) (coded : Bool) (at : ℕ) → stands place coded at ≡ true → at ≡ place

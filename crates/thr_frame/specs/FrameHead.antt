@@ -1,5 +1,5 @@
 -- The head of a frame's packet (Theora I, 7.1).
-use Rattle.std.specs.Prelude.{ℕ, zero, suc, ◌<◌, ◌≤◌, ◌==◌, All, length, Bool, true, false, not, List, [], ◌∷◌, Result, Ok, Err, if◌then◌else◌}
+use Rattle.std.specs.Prelude.{ℕ, zero, suc, ◌<◌, ◌≤◌, ◌==◌, All, length, Bool, not, List, [], ◌∷◌, Result, Ok, Err, if◌then◌else◌}
 use Rattle.vid_base.specs.declared.fault.PacketFault.{PacketFault}
 use Rattle.vid_base.specs.declared.fault.PacketFault.TheVariants.{NotData, Reserved}
 use Rattle.vid_base.specs.Reading.{◌>>=◌, field, one_bit}

@@ -1,5 +1,5 @@
 -- Which quantiser index each block has (Theora I, 7.6): its place in QIS. A list has an entry for each block in coded order.
-use Rattle.std.specs.Prelude.{ℕ, zero, suc, ◌+◌, ◌-◌, ◌==◌, ◌&&◌, Bool, true, false, List, [], ◌∷◌, length, replicate, Result, Ok, if◌then◌else◌}
+use Rattle.std.specs.Prelude.{ℕ, zero, suc, ◌+◌, ◌-◌, ◌==◌, ◌&&◌, Bool, List, [], ◌∷◌, length, replicate, Result, Ok, if◌then◌else◌}
 use Rattle.vid_base.specs.declared.fault.PacketFault.{PacketFault}
 use Rattle.vid_base.specs.Reading.{◌>>=◌}
 use Rattle.thr_flags.specs.RunStrings.{long_string}

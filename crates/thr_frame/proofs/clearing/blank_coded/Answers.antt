@@ -1,4 +1,4 @@
-use Rattle.std.proofs.Common.{◌≡◌, ◌∙◌, [], pos, ap, replicate, arith}
+use Rattle.std.proofs.Common.{◌∙◌, [], pos, ap, replicate, arith}
 use Rattle.thr_frame.proofs.ClearLemmas.{all_same}
 use Rattle.thr_frame.proofs.clearing.blank_coded.Goals as goal
 

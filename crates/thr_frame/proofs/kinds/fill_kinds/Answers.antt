@@ -1,4 +1,4 @@
-use Rattle.std.proofs.Common.{◌≡◌, ◌∙◌, ◌<◌, ◌++◌, [], ℕ, List, Some, slice_get, get_or, length, map, take, refl, sym, ap, arith}
+use Rattle.std.proofs.Common.{◌≡◌, ◌∙◌, ◌<◌, ◌++◌, [], ℕ, List, Some, slice_get, get_or, length, map, take, sym, ap, arith}
 use Rattle.std.proofs.lemmas.List.Elements.{All-take}
 use Rattle.std.proofs.lemmas.Option.{slice_get-get_or}
 use Rattle.vid_geom.specs.CodedOrder.{order_of, place_of}
@@ -7,7 +7,7 @@ use Rattle.thr_modes.proofs.AreaLemmas.{numbers_are, sizes_at}
 use Rattle.thr_modes.proofs.LumaLemmas.{All-left, All-right}
 use Rattle.thr_frame.specs.CodedFrame.{kind_of}
 use Rattle.thr_frame.specs.Kinds.{put_same}
-use Rattle.thr_frame.proofs.KindLemmas.{KnownBefore, known_all, known_more, same-append}
+use Rattle.thr_frame.proofs.KindLemmas.{known_all, known_more, same-append}
 use Rattle.thr_frame.proofs.kinds.fill_kinds.Goals as goal
 
 pub put_kind-requires-in-macro_blocks : goal.put_kind-requires-in-macro_blocks

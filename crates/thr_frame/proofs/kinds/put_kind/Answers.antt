@@ -1,4 +1,4 @@
-use Rattle.std.proofs.Common.{◌≡◌, ◌∙◌, get_or, refl, sym, arith}
+use Rattle.std.proofs.Common.{◌∙◌, get_or, refl, sym, arith}
 use Rattle.thr_frame.proofs.KindLemmas.{same_more, same_done}
 use Rattle.thr_frame.proofs.kinds.put_kind.Goals as goal
 

@@ -1,7 +1,6 @@
-use Rattle.std.proofs.Common.{◌≡◌, ◌∙◌, ◌+◌, ◌<◌, ◌++◌, ◌∷◌, [], get_or, length, take, drop, true, false, refl, sym, ap, arith, slice_set}
-use Rattle.std.specs.List.{All}
+use Rattle.std.proofs.Common.{◌≡◌, ◌∙◌, ◌+◌, ◌<◌, get_or, length, drop, true, false, refl, sym, arith, slice_set}
 use Rattle.std.proofs.lemmas.List.{take_more_set, drop-set-lt}
-use Rattle.thr_frame.specs.QuantiserPlaces.{moved_up, standing, stands}
+use Rattle.thr_frame.specs.QuantiserPlaces.{moved_up, stands}
 use Rattle.thr_frame.proofs.PlaceLemmas.{moved_done, moved_here, moved_other, moved_small, standing_more, stands_at, take_next}
 use Rattle.thr_frame.proofs.places.move_up.Goals.{then-stands, else-stands, then-moves-next, else-moves-next}
 use Rattle.thr_frame.proofs.places.move_up.Goals as goal

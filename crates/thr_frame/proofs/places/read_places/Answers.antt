@@ -1,7 +1,6 @@
-use Rattle.std.proofs.Common.{◌≡◌, ◌∙◌, ◌+◌, ◌-◌, ◌≤◌, length, replicate, sym, ap, refl, rules, arith}
-use Rattle.std.specs.List.{All}
+use Rattle.std.proofs.Common.{◌≡◌, ◌∙◌, ◌+◌, ◌-◌, sym, refl, rules, arith}
 use Rattle.std.proofs.lemmas.Result.{err_from_is_err_and}
-use Rattle.thr_frame.specs.QuantiserPlaces.{places_of, rounds}
+use Rattle.thr_frame.specs.QuantiserPlaces.{places_of}
 use Rattle.thr_frame.proofs.PlaceLemmas.{rounds_done, rounds_fault, rounds_more}
 use Rattle.thr_frame.proofs.places.read_places.Goals as goal
 

@@ -1,4 +1,4 @@
-use Rattle.std.proofs.Common.{◌≡◌, ◌-◌, ◌≤◌, length, replicate}
+use Rattle.std.proofs.Common.{◌≡◌, ◌-◌, ◌≤◌}
 use Rattle.std.specs.List.{All}
 use Rattle.vid_base.specs.Reading.{SameEnd}
 use Rattle.thr_frame.specs.QuantiserPlaces.{places_of, rounds}
