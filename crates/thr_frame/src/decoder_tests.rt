@@ -1,9 +1,14 @@
+mod clip;
+mod headers;
+
 use crate::*;
+use clip::FRAMES;
+use headers::{IDENT_HEADER, SETUP_HEADER};
 use std::alloc::Global;
 use std::process::Abort;
 use std::test::Fail;
-use thr_ident::Ident;
-use thr_setup::import_setup;
+use thr_ident::{Ident, read_ident};
+use thr_setup::{import_setup, read_setup};
 use vid_base::PacketFault;
 use vid_plane::Plane;
 
@@ -91,6 +96,31 @@ fn packets_show_their_frames_and_faults_change_none(rt: HostRuntime) -> Result<(
         if *luma != 0 {
             assert_shows(&rt, &decoder, *luma);
         }
+    }
+    Ok(())
+}
+
+// A number of a plane's samples behind those of others.
+fn digest(mut sum: u32, plane: &Plane) -> u32 {
+    for y in 0..plane.height() {
+        for sample in plane.row(y) {
+            sum = sum.wrapping_mul(16_777_619) ^ u32::from(*sample);
+        }
+    }
+    sum
+}
+
+#[test]
+fn a_clip_of_libtheora_is_decoded_as_ffmpeg_does(rt: HostRuntime) -> Result<(), Fail> {
+    let ident = read_ident(IDENT_HEADER)?;
+    let setup = read_setup(rt.alloc(), SETUP_HEADER)?;
+    let mut decoder = Decoder::new(rt.alloc(), &ident, &setup)?;
+    for (number, (packet, wanted)) in FRAMES.iter().enumerate() {
+        assert!(rt; decoder.step(packet).is_ok(), "step {number}");
+        assert!(rt; decoder.started());
+        let frame = decoder.frame();
+        let shown = digest(digest(digest(0, &frame.y), &frame.cb), &frame.cr);
+        assert_eq!(rt; (number, shown), (number, *wanted));
     }
     Ok(())
 }
