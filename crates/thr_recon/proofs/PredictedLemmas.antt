@@ -7,7 +7,7 @@ use Rattle.vid_plane.specs.Picture.{Picture}
 use Rattle.vid_plane.specs.Seen.{picture_of, left_of, lower_of}
 use Rattle.vid_plane.specs.declared.window.Window.{Window}
 use Rattle.thr_recon.specs.declared.predictor.Predictor.TheVariants.{One, Two}
-use Rattle.thr_recon.specs.Predicted.{shown, near_offset, far_offset, predicted}
+use Rattle.thr_recon.specs.Predicted.{shown, near_offset, far_offset, predicted, predicted_by}
 
 -- a window stands where the offsets of a vector lead
 pub record LedTo (a : Window) (p : Picture) (left lower : ℤ) : Type 0 where
@@ -25,7 +25,7 @@ pub shown-one : (a : Window) (p : Picture) (x y : ℕ) (v : Vector) (half_x half
     → LedTo a p (pos x +ℤ near_offset half_x v.x) (pos y +ℤ near_offset half_y v.y)
     → near_offset half_x v.x ≡ far_offset half_x v.x → near_offset half_y v.y ≡ far_offset half_y v.y
     → shown (One a) ≡ predicted p x y v half_x half_y
-unfolding shown predicted
+unfolding shown predicted predicted_by
 shown-one a p x y v half_x half_y led same_x same_y =
     let e = led.plane in
     let l = led.left_is in
@@ -40,7 +40,7 @@ pub shown-two : (a b : Window) (p : Picture) (x y : ℕ) (v : Vector) (half_x ha
     → LedTo b p (pos x +ℤ far_offset half_x v.x) (pos y +ℤ far_offset half_y v.y)
     → (near_offset half_x v.x ≡ far_offset half_x v.x → near_offset half_y v.y ≡ far_offset half_y v.y → ⊥)
     → shown (Two a b) ≡ predicted p x y v half_x half_y
-unfolding shown predicted
+unfolding shown predicted predicted_by
 shown-two a b p x y v half_x half_y near far apart =
     let e = near.plane in
     let l = near.left_is in

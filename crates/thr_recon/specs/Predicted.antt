@@ -45,11 +45,15 @@ near_offset half component = signed component (unsigned_abs component / steps ha
 unfoldable pub far_offset : Bool → ℤ → ℤ
 far_offset half component = signed component ((unsigned_abs component + (steps half - 1)) / steps half)
 
--- the samples that a vector leads to: those at the near offsets, or where an offset differs their mean with those at the far ones
-unfoldable pub predicted : Picture → ℕ → ℕ → Vector → Bool → Bool → ℕ → ℕ → ℕ
-predicted p x y vector half_x half_y =
-    let near = moved p (pos x +ℤ near_offset half_x vector.x) (pos y +ℤ near_offset half_y vector.y) in
-    let far = moved p (pos x +ℤ far_offset half_x vector.x) (pos y +ℤ far_offset half_y vector.y) in
-    if int_eq (near_offset half_x vector.x) (far_offset half_x vector.x) && int_eq (near_offset half_y vector.y) (far_offset half_y vector.y)
+-- the samples that a vector of these components leads to: those at the near offsets, or where an offset differs their mean with those at the far ones
+unfoldable pub predicted_by : Picture → ℕ → ℕ → ℤ → ℤ → Bool → Bool → ℕ → ℕ → ℕ
+predicted_by p x y across upwards half_x half_y =
+    let near = moved p (pos x +ℤ near_offset half_x across) (pos y +ℤ near_offset half_y upwards) in
+    let far = moved p (pos x +ℤ far_offset half_x across) (pos y +ℤ far_offset half_y upwards) in
+    if int_eq (near_offset half_x across) (far_offset half_x across) && int_eq (near_offset half_y upwards) (far_offset half_y upwards)
     then near
     else mean_of near far
+
+-- the samples that a vector leads to
+unfoldable pub predicted : Picture → ℕ → ℕ → Vector → Bool → Bool → ℕ → ℕ → ℕ
+predicted p x y vector half_x half_y = predicted_by p x y vector.x vector.y half_x half_y

@@ -1,0 +1,11 @@
+pub mod MotionLemmas
+pub mod KindLemmas
+pub mod PlaceLemmas
+pub mod ClearLemmas
+pub mod BlankLemmas
+pub mod OwnLemmas
+pub mod PaintedLemmas
+pub mod PredictorLemmas
+pub mod MatrixLemmas
+pub mod FilteredLemmas
+pub mod StateLemmas

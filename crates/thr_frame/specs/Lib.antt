@@ -1,0 +1,11 @@
+pub mod FrameHead
+pub mod QuantiserPlaces
+pub mod CodedFrame
+pub mod Kinds
+pub mod Parsed
+pub mod Views
+pub mod Work
+pub mod Rebuilt
+pub mod Step
+pub mod Painted
+pub mod Sources
