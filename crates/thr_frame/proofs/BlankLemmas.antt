@@ -10,6 +10,7 @@ use Rattle.vid_geom.specs.CodedOrder.{order_of}
 use Rattle.thr_huff.specs.CodeTree.{CodeTree}
 use Rattle.thr_token.specs.Coefficients.{Progress, Source, at_place, coefficients, first_place, is_luma, numbers_in, places, results_of, token_in, turn, unended, untouched, untouched_blocks, visit}
 use Rattle.thr_token.specs.Tokenised.{AreBlank}
+use Rattle.thr_frame.proofs.StepLemmas.{both, ok_same}
 
 -- a block has ended, and has only zeros
 abbrev pub IsResting : Progress → Type 0
@@ -21,19 +22,6 @@ AreResting [] [] = ⊤
 AreResting [] (b ∷ blocks) = ⊥
 AreResting (coded ∷ flags) [] = ⊥
 AreResting (coded ∷ flags) (b ∷ blocks) = (coded ≡ false → IsResting b) × AreResting flags blocks
-
--- what a reading that goes on was given, and what then came out
-record Both {A B F : Type 0} (read : Result A F) (next : A → Result B F) (out : B) : Type 0 where
-  value : A
-  was : read ≡ Ok value
-  then : next value ≡ Ok out
-
-both : {A B F : Type 0} (read : Result A F) (next : A → Result B F) (out : B) → (read >>= next) ≡ Ok out → Both read next out
-both (Ok a) next out e = record { value = a; was = refl; then = e }
-both (Err fault) next out e = cc
-
-ok_same : {A F : Type 0} (a b : A) → ◌≡◌ {A = Result A F} (Ok a) (Ok b) → a ≡ b
-ok_same a b e = cc
 
 resting-append : (flags more : List Bool) (blocks others : List Progress) → AreResting flags blocks → AreResting more others → AreResting (flags ++ more) (blocks ++ others)
 resting-append [] more [] others a b = b
@@ -59,8 +47,8 @@ resting_at next place visited (x ∷ blocks) all run rest source left seen (code
     let step = both (visit next place (unended visited + unended blocks) x run source) (λ after. at_place next place (visited ++ after.0.0 ∷ []) blocks after.0.1 after.1) ((all, rest), left) e in
     let after : Progress = step.value.0.0 in
     let resting : coded ≡ false → IsResting after = λ off. (
-        let same : x ≡ after = ap (λ out. out.0.0) (ok_same ((x, run), source) step.value (sym (visit_ended next place (unended visited + unended blocks) x run source h (b.0 off).0) ∙ step.was)) in
-        rw (← same) (b.0 off)) in
+    let same : x ≡ after = ap (λ out. out.0.0) (ok_same ((x, run), source) step.value (sym (visit_ended next place (unended visited + unended blocks) x run source h (b.0 off).0) ∙ step.was)) in
+    rw (← same) (b.0 off)) in
     rw (← append_assoc seen (coded ∷ []) flags)
     (resting_at next place (visited ++ after ∷ []) blocks all step.value.0.1 rest step.value.1 left (seen ++ coded ∷ []) flags h step.then (resting-append seen (coded ∷ []) visited (after ∷ []) a (resting, tt)) b.1)
 
@@ -92,6 +80,13 @@ resting_blank (coded ∷ flags) [] a k off = absurd a
 resting_blank (coded ∷ flags) (b ∷ blocks) a zero off = (a.0 off).1
 resting_blank (coded ∷ flags) (b ∷ blocks) a (suc k) off = resting_blank flags blocks a.1 k off
 
+-- what is given of blocks
+given_blank : (flags : List Bool) (all : List Progress) (values : List (List ℤ)) (counts : List ℕ) (rest left : List Bool) → ◌≡◌ {A = Result ((List (List ℤ) × List ℕ) × List Bool) PacketFault} (Ok (results_of all, rest)) (Ok ((values, counts), left))
+    → AreResting flags all → AreBlank flags values
+given_blank flags all values counts rest left e a =
+    let are : map (λ b. b.values) all ≡ values = ap (λ read. read.0.0) (ok_same (results_of all, rest) ((values, counts), left) e) in
+    rw (← are) (resting_blank flags all a)
+
 -- the values of blocks that are not coded are 0 in every frame that is read
 pub read_blank : (forest : List CodeTree) (s : Shape) (flags bits : List Bool) (values : List (List ℤ)) (counts : List ℕ) (left : List Bool) → length flags ≡ length (order_of s)
     → coefficients forest s flags bits ≡ Ok ((values, counts), left) → AreBlank flags values
@@ -102,14 +97,6 @@ read_blank forest s flags bits values counts left h e =
     let first = both (places (token_in forest dc.value.0) 1 0 (untouched_blocks (order_of s) flags) 0 dc.value.1) _ out dc.then in
     let ac = both (numbers_in first.value.1) _ out first.then in
     let all = both (places (token_in forest ac.value.0) 63 1 first.value.0.0 first.value.0.1 ac.value.1) _ out ac.then in
-    let same : results_of all.value.0.0 ≡ (values, counts) = ap (λ read. read.0) (ok_same (results_of all.value.0.0, all.value.1) out all.then) in
     let begun = resting_places (token_in forest dc.value.0) 1 0 (untouched_blocks (order_of s) flags) first.value.0.0 0 first.value.0.1 dc.value.1 first.value.1 flags (omega arith) first.was (resting_first (order_of s) flags h) in
     let ended = resting_places (token_in forest ac.value.0) 63 1 first.value.0.0 all.value.0.0 first.value.0.1 all.value.0.1 ac.value.1 all.value.1 flags (omega arith) all.was begun in
-    let are : map (λ b. b.values) all.value.0.0 ≡ values = ap (λ read. read.0) same in
-    rw (← are) (resting_blank flags all.value.0.0 ended)
-
--- so are they where no block is read at all
-pub none_blank : (flags : List Bool) → AreBlank flags (replicate (length flags) (replicate 64 (pos 0)))
-none_blank [] k off = absurd cc
-none_blank (coded ∷ flags) zero off = refl
-none_blank (coded ∷ flags) (suc k) off = none_blank flags k off
+    given_blank flags all.value.0.0 values counts all.value.1 left all.then ended

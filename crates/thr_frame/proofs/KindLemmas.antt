@@ -86,9 +86,9 @@ record From {X Y : Type 0} (f : X → List Y) (xs : List X) (y : Y) : Type 0 whe
 from_one : {X Y : Type 0} (f : X → List Y) (xs : List X) (y : Y) → Contains (flat_map f xs) y → From f xs y
 from_one f [] y c = absurd (omega (arith, c.1))
 from_one f (x ∷ xs) y c = elim (Contains-append_cases (f x) (flat_map f xs) y c) [
-      | inl here ↦ record { k = zero; x = x; at = refl; among = here }
-      | inr later ↦ let rest = from_one f xs y later in record { k = suc rest.k; x = rest.x; at = rest.at; among = rest.among }
-    ]
+  | inl here ↦ record { k = zero; x = x; at = refl; among = here }
+  | inr later ↦ let rest = from_one f xs y later in record { k = suc rest.k; x = rest.x; at = rest.at; among = rest.among }
+]
 
 owner : (s : Shape) (b : Block) → IsBlock s b → Owner s b
 unfolding macro_order

@@ -2,6 +2,7 @@ pub mod MotionLemmas
 pub mod KindLemmas
 pub mod PlaceLemmas
 pub mod ClearLemmas
+pub mod StepLemmas
 pub mod BlankLemmas
 pub mod OwnLemmas
 pub mod PaintedLemmas
@@ -9,3 +10,5 @@ pub mod PredictorLemmas
 pub mod MatrixLemmas
 pub mod FilteredLemmas
 pub mod StateLemmas
+pub mod DecodingLemmas
+pub mod KeyLemmas

@@ -9,3 +9,5 @@ pub mod Rebuilt
 pub mod Step
 pub mod Painted
 pub mod Sources
+pub mod Decoding
+pub mod Ready

@@ -48,10 +48,7 @@ fn read_reserved(r: &mut BitReader, intra: bool) -> Result<(), PacketFault>
 /// Reads the head of a frame's packet: whether the frame is intra, and its quantiser indices in place of those that are
 /// there. `NotData`, `Ended` or `Reserved`; the indices are then open.
 #[tactic(auto, unfolding(crate::specs::FrameHead::head_of, vid_base::specs::Reading::one_bit))]
-pub(crate) fn read_head(
-    r: &mut BitReader,
-    qis: &mut ArrayVec<u8, 3>,
-) -> Result<bool, PacketFault>
+pub(crate) fn read_head(r: &mut BitReader, qis: &mut ArrayVec<u8, 3>) -> Result<bool, PacketFault>
     ensures value { Gives (λ intra. head_with intra qis.new.items) result r.new.left (head_of r.old.left) }
     ensures small { OnOk result (IsQis qis.new.items) }
     ensures end { SameEnd r.old r.new }

@@ -7,8 +7,11 @@
 mod checking;
 mod clearing;
 mod coded;
+mod decoder;
+mod decoding;
 mod frame;
 mod head;
+mod kind;
 mod kinds;
 pub mod laws;
 mod motion;
@@ -21,6 +24,11 @@ mod work;
 
 pub use checking::{check_blank, check_frame};
 pub use coded::Coded;
+pub use decoder::Decoder;
 pub use frame::rebuild_frame;
+pub use kind::Kind;
 pub use parsing::{parse_frame, parse_into};
 pub use work::Work;
+
+#[cfg(test)]
+mod parse_tests;

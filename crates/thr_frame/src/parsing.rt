@@ -1,10 +1,10 @@
 // A frame's packet parsed (Theora I, 7).
-ghost use Rattle.std.specs.Prelude.{◌≡◌, Err, IfErr, IfOk, Ok, OnOk};
+ghost use Rattle.std.specs.Prelude.{◌≡◌, Err, IfErr, IfOk, Ok, OnOk, not};
 ghost use Rattle.vid_base.specs.Reading.{Gives, Refuses, SameEnd};
 ghost use Rattle.thr_setup.specs.Setup.{contents};
 ghost use Rattle.thr_token.specs.Tokenised.{AreBlank};
 ghost use Rattle.thr_frame.specs.CodedFrame.{IsCodedFrame, IsSized, frame_of};
-ghost use Rattle.thr_frame.specs.Parsed.{blank_values, coded_in, fields_of, parsed, with_dc_values};
+ghost use Rattle.thr_frame.specs.Parsed.{blank_values, coded_in, fields_of, needs_frame, parsed, with_dc_values};
 ghost use Rattle.thr_frame.specs.Work.{IsWorkFor};
 
 use crate::clearing::clear;
@@ -110,13 +110,15 @@ pub(crate) fn parse_blank(
     requires blank { into.old.coeffs.values.items ≡ blank_values geom.now }
     ensures value { OnOk result (coded_in (contents setup.now) geom.now packet.now ≡ Ok (frame_of into.new)) }
     ensures fault { IfErr result (λ fault. coded_in (contents setup.now) geom.now packet.now ≡ Err fault) }
+    ensures intra { OnOk result (into.new.intra ≡ not (needs_frame packet.now)) }
     ensures rebuildable { OnOk result (IsCodedFrame geom.now (frame_of into.new)) }
     ensures blank { OnOk result (AreBlank into.new.flags.items into.new.coeffs.values.items) }
     ensures sized { IsSized geom.now (frame_of into.new) }
     ensures work { IsWorkFor geom.now work.new }
 {
     let mut r = BitReader::new(packet);
-    read_frame(&mut r, geom, setup, into, work)
+    read_frame(&mut r, geom, setup, into, work)?;
+    Ok(())
 }
 
 /// Parses a frame's packet into lists that were made for frames of that geometry; takes no memory (Theora I, 7). The first
@@ -133,6 +135,7 @@ pub fn parse_into(
     requires work { IsWorkFor geom.now work.old }
     ensures value { OnOk result (coded_in (contents setup.now) geom.now packet.now ≡ Ok (frame_of into.new)) }
     ensures fault { IfErr result (λ fault. coded_in (contents setup.now) geom.now packet.now ≡ Err fault) }
+    ensures intra { OnOk result (into.new.intra ≡ not (needs_frame packet.now)) }
     ensures rebuildable { OnOk result (IsCodedFrame geom.now (frame_of into.new)) }
     ensures blank { OnOk result (AreBlank into.new.flags.items into.new.coeffs.values.items) }
     ensures sized { IsSized geom.now (frame_of into.new) }

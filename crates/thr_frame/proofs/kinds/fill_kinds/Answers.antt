@@ -40,7 +40,7 @@ macro_blocks-preserved c =
     let second : c.put_kind-in-macro_blocks.new.kinds ≡ put_same v cb c.put_kind.new.kinds = rw (c.kind_of-kind.ensures, c.from-count.ensures) at c.put_kind-in-macro_blocks.ensures in
     let third : c.put_kind-in-macro_blocks-2.new.kinds ≡ put_same v cr c.put_kind-in-macro_blocks.new.kinds = rw (c.kind_of-kind.ensures, c.from-count.ensures) at c.put_kind-in-macro_blocks-2.ensures in
     let all : c.put_kind-in-macro_blocks-2.new.kinds ≡ put_same v (numbers.luma ++ cb ++ cr) c.macro_blocks.kinds =
-        third ∙ ap (put_same v cr) (second ∙ ap (put_same v cb) first ∙ sym (same-append v numbers.luma cb c.macro_blocks.kinds)) ∙ sym (same-append v (numbers.luma ++ cb) cr c.macro_blocks.kinds) in
+    third ∙ ap (put_same v cr) (second ∙ ap (put_same v cb) first ∙ sym (same-append v numbers.luma cb c.macro_blocks.kinds)) ∙ sym (same-append v (numbers.luma ++ cb) cr c.macro_blocks.kinds) in
     let named : c.put_kind-in-macro_blocks-2.new.kinds ≡ put_same v (map (place_of s) (area_blocks area)) c.macro_blocks.kinds = all ∙ ap (λ places. put_same v places c.macro_blocks.kinds) (numbers_are s area numbers (sizes_at s m area at) is) in
     rw named (known_more s c.args.modes.now m area c.macro_blocks.kinds (c.macro_blocks.auto.kinds ∙ c.requires.kinds) at c.macro_blocks.invariant)
 
