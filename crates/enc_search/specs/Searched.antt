@@ -1,9 +1,9 @@
 -- How well the luma blocks of a macro block are predicted, and the candidates that a prediction is compared with (own). s is the frame's
 -- shape, target the frame that is to be coded, refs the frames that it is predicted from, b a block; P gives the predicted samples of a
 -- block by column and row from its lower left one.
-use Rattle.std.specs.Prelude.{ℕ, ◌≤◌, ◌+◌, ◌*◌, ◌/◌, ◌%◌, ℤ, pos, negsuc, ◌-ℤ◌, false, List, [], ◌∷◌, map, sum_by, All, Contains}
-use Rattle.std.specs.List.{flat_map, range_with_len}
-use Rattle.std.specs.Int.RustNames.{unsigned_abs}
+use Rattle.std.specs.Prelude.{ℕ, ◌≤◌, ◌+◌, ◌*◌, ◌/◌, ◌%◌, ℤ, pos, ◌-ℤ◌, false, List, [], ◌∷◌, map, sum_by, All, Contains}
+use Rattle.std.specs.List.{range_with_len}
+use Rattle.std.specs.Int.{abs_diff}
 use Rattle.vid_base.specs.declared.shape.Shape.{Shape}
 use Rattle.vid_geom.specs.declared.block.Block.{Block}
 use Rattle.vid_geom.specs.MacroBlocks.{Area, macro_blocks}
@@ -21,17 +21,21 @@ Samples = ℕ → ℕ → ℕ
 abbrev pub block_samples : Frame → Block → Samples
 block_samples frame b u v = pixel (plane_of frame b.pli) (8 * b.col + u) (8 * b.row + v)
 
--- how far two samples are apart
-abbrev pub distance : ℕ → ℕ → ℕ
-distance a b = unsigned_abs (pos a -ℤ pos b)
+-- how far the samples of a row are apart: the sum of the absolute differences
+unfoldable pub row_distance : Samples → Samples → ℕ → ℕ
+row_distance f g v = sum_by (λ u. abs_diff (f u v) (g u v)) (range_with_len 0 8)
 
--- the sum over the samples of a block
+-- those of a block
 unfoldable pub block_distance : Samples → Samples → ℕ
-block_distance f g = sum_by (λ k. distance (f (k % 8) (k / 8)) (g (k % 8) (k / 8))) (range_with_len 0 64)
+block_distance f g = sum_by (row_distance f g) (range_with_len 0 8)
 
--- the sum over the luma blocks of a macro block
-unfoldable pub macro_distance : Frame → (Block → Samples) → Area → ℕ
-macro_distance target P area = sum_by (λ b. block_distance (block_samples target b) (P b)) area.luma
+-- those of blocks
+unfoldable pub luma_distance : Frame → (Block → Samples) → List Block → ℕ
+luma_distance target P blocks = sum_by (λ b. block_distance (block_samples target b) (P b)) blocks
+
+-- those of the luma blocks of a macro block
+abbrev pub macro_distance : Frame → (Block → Samples) → Area → ℕ
+macro_distance target P area = luma_distance target P area.luma
 
 -- what a luma prediction is compared with: 128 in each sample, the golden frame where the block stands, and the previous frame as far
 -- to the right and upwards as a vector says, in half samples
@@ -46,14 +50,25 @@ candidate_samples refs Flat b = flat
 candidate_samples refs Golden b = predicted_by refs.golden.y (8 * b.col) (8 * b.row) (pos 0) (pos 0) false false
 candidate_samples refs (Moved across upwards) b = predicted_by refs.prev.y (8 * b.col) (8 * b.row) across upwards false false
 
--- the even numbers from -8 to 8
-abbrev pub evens : List ℤ
-evens = negsuc 7 ∷ negsuc 5 ∷ negsuc 3 ∷ negsuc 1 ∷ pos 0 ∷ pos 2 ∷ pos 4 ∷ pos 6 ∷ pos 8 ∷ []
+-- the even numbers from -8 to 8, by k below 9
+abbrev pub even : ℕ → ℤ
+even k = pos (2 * k) -ℤ pos 8
 
--- all 83: the vectors are those of even components from -8 to 8
+-- the vectors of two even components from -8 to 8: one by k below 81, and all
+abbrev pub even_vector : ℕ → Candidate
+even_vector k = Moved (even (k % 9)) (even (k / 9))
+
+unfoldable pub moves : List Candidate
+moves = map even_vector (range_with_len 0 81)
+
+-- all 83
 unfoldable pub candidates : List Candidate
-candidates = Flat ∷ Golden ∷ flat_map (λ upwards. map (λ across. Moved across upwards) evens) evens
+candidates = Flat ∷ Golden ∷ moves
 
--- each macro block is predicted no worse than by any candidate
+-- a macro block is predicted no worse than by any candidate
+unfoldable pub IsLeast : Pair → Frame → (Block → Samples) → List Block → Type 0
+IsLeast refs target P blocks = All (λ candidate. luma_distance target P blocks ≤ luma_distance target (candidate_samples refs candidate) blocks) candidates
+
+-- and so is each
 pub record IsSearched (s : Shape) (refs : Pair) (target : Frame) (P : Block → Samples) : Type 0 where
-  pub least : (area : Area) → Contains (macro_blocks s) area → All (λ candidate. macro_distance target P area ≤ macro_distance target (candidate_samples refs candidate) area) candidates
+  pub least : (area : Area) → Contains (macro_blocks s) area → IsLeast refs target P area.luma

@@ -5,7 +5,7 @@ ghost use Rattle.enc_search.specs.Searched.{candidates, IsSearched};
 ghost use Rattle.enc_search.specs.ChosenFrame.{chosen_frame};
 
 /// There are 83 candidates.
-#[tactic(auto, unfolding(crate::specs::Searched::candidates))]
+#[tactic(auto, unfolding(crate::specs::Searched::candidates, crate::specs::Searched::moves))]
 pub fn candidates_of_a_macro_block()
     ensures { length candidates ≡ 83 }
 {}
