@@ -34,10 +34,10 @@ use Rattle.enc_search.specs.Searched.{IsLeast, IsSearched, luma_distance}
 use Rattle.enc_search.proofs.PutLemmas.{put_all_push}
 
 -- the flags of the macro blocks where all blocks are coded
-pub all_flags : Shape → List (List Bool)
+abbrev pub all_flags : Shape → List (List Bool)
 all_flags s = macro_flags s (replicate (length (order_of s)) true)
 
-no_motion : Motion
+pub no_motion : Motion
 no_motion = record { luma = []; chroma = [] }
 
 -- what was chosen for a macro block
@@ -86,6 +86,10 @@ one_chosen pf mode luma memory refs target v blocks four found = record {
   allowed = found.allowed.motion pf;
   uncoded = λ seven. absurd (omega (arith, found.allowed.small, seven));
 }
+
+behind_motion : (pf : ℕ) (v : Offset) (mode : ℕ) (memory next : Memory) (luma : List Bool) → next ≡ memory_behind mode luma memory (replicate 4 v) → next ≡ memory_behind mode luma memory (same_motion pf v).luma
+unfolding same_motion
+behind_motion pf v mode memory next luma h = h
 
 All-one : {X : Type 0} (P : X → Type 0) (x : X) → P x → All P (x ∷ [])
 All-one P x h = All-replicate P 1 x h
@@ -137,19 +141,18 @@ more_first s refs target modes memory next vectors new m area mode v at found pu
     four = four_flags s (replicate (length (order_of s)) true) m [] many
 
     remembered : (l : List Bool) → next ≡ memory_behind mode l memory motion.luma
-    unfolding same_motion
-    remembered l = behind l
+    remembered l = behind_motion s.pf v mode memory next l (behind l)
+
+    last : (k : ℕ) (a : Area) → k ≡ m → slice_get areas k ≡ Some a → IsChoice s refs target (get_or (modes ++ mode ∷ []) k 0) (get_or (first.motions ++ motion ∷ []) k no_motion) a
+    last k a is e =
+        let same : area ≡ a = same_Some area a (sym at ∙ ap (slice_get areas) (sym is) ∙ e) in
+        rw (get_or_push modes mode 0 k (first.counted ∙ sym is), get_or_push first.motions motion no_motion k (first.long ∙ sym is)) (record { v = v; is = refl; least = rw same at found.least })
 
     each : (k : ℕ) (a : Area) → k < m + 1 → slice_get areas k ≡ Some a → IsChoice s refs target (get_or (modes ++ mode ∷ []) k 0) (get_or (first.motions ++ motion ∷ []) k no_motion) a
     each k a h e = elim (cases_lt k m) as (λ _. IsChoice s refs target (get_or (modes ++ mode ∷ []) k 0) (get_or (first.motions ++ motion ∷ []) k no_motion) a) [
       | inl before ↦ rw (get_or-append modes (mode ∷ []) 0 k (omega (arith, first.counted, before)), get_or-append first.motions (motion ∷ []) no_motion k (omega (arith, first.long, before))) (first.each k a before e)
       | inr past ↦ last k a (omega (arith, h, past)) e
     ]
-
-    last : (k : ℕ) (a : Area) → k ≡ m → slice_get areas k ≡ Some a → IsChoice s refs target (get_or (modes ++ mode ∷ []) k 0) (get_or (first.motions ++ motion ∷ []) k no_motion) a
-    last k a is e =
-        let same : area ≡ a = same_Some area a (sym at ∙ ap (slice_get areas) (sym is) ∙ e) in
-        rw (get_or_push modes mode 0 k (first.counted ∙ sym is), get_or_push first.motions motion no_motion k (first.long ∙ sym is)) (record { v = v; is = refl; least = rw same at found.least })
 
 -- all of them: the vectors by block
 pub all_placed : (s : Shape) (refs : Pair) (target : Frame) (modes : List ℕ) (memory : Memory) (vectors : List Offset) (first : AreFirst s refs target modes memory vectors (length (macro_blocks s))) → vectors ≡ by_block s first.motions
@@ -160,7 +163,6 @@ all_placed s refs target modes memory vectors first =
 -- they are chosen
 pub all_chosen : (s : Shape) (refs : Pair) (target : Frame) (modes : List ℕ) (memory : Memory) (vectors : List Offset) → AreFirst s refs target modes memory vectors (length (macro_blocks s))
     → AreChosen s (replicate (length (order_of s)) true) modes vectors
-unfolding all_flags
 all_chosen s refs target modes memory vectors first =
     let flags : List (List Bool) = macro_flags s (replicate (length (order_of s)) true) in
     let whole : take (length (macro_blocks s)) flags ≡ flags = take_all (length (macro_blocks s)) flags (omega (arith, flags_long s (replicate (length (order_of s)) true))) in

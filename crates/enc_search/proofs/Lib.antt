@@ -4,3 +4,4 @@ pub mod AllowedLemmas
 pub mod LumaLemmas
 pub mod PutLemmas
 pub mod ChoiceLemmas
+pub mod SearchedLemmas

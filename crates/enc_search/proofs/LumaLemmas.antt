@@ -1,8 +1,9 @@
 -- The predicted samples of luma blocks, and the blocks at the places of a macro block. The search and the choice cite these.
-use Rattle.std.proofs.Common.{◌≡◌, ◌∙◌, ℕ, zero, suc, ◌==◌, ◌*◌, ◌<◌, Bool, true, false, List, [], ◌∷◌, ◌++◌, length, map, get_or, Some, slice_get, refl, ap, sym, arith}
+use Rattle.std.proofs.Common.{◌≡◌, ◌∙◌, ℕ, zero, suc, ◌==◌, ◌+◌, ◌*◌, ◌<◌, ◌≤◌, Bool, true, false, List, [], ◌∷◌, ◌++◌, length, map, take, get_or, Some, slice_get, refl, ap, sym, arith}
 use Rattle.std.specs.List.{All, Contains}
+use Rattle.std.proofs.Math.Nat.{add-zero}
 use Rattle.std.proofs.lemmas.Bool.{eqb-true}
-use Rattle.std.proofs.lemmas.List.{length-map, get_or-map, ext_get_or}
+use Rattle.std.proofs.lemmas.List.{length-map, get_or-map, ext_get_or, take_all}
 use Rattle.std.proofs.lemmas.List.Elements.{All-contains, Contains-get_or, Contains-append_left}
 use Rattle.vid_base.specs.declared.shape.Shape.{Shape}
 use Rattle.vid_geom.specs.declared.block.Block.{Block}
@@ -11,8 +12,10 @@ use Rattle.vid_geom.specs.MacroBlocks.{Area, area_blocks, macro_blocks, macro_or
 use Rattle.vid_geom.proofs.ListLemmas.{Contains-flat_map, Contains-slice_get}
 use Rattle.vid_geom.proofs.MacroBlockLemmas.{macro_order_names_each_once}
 use Rattle.vid_geom.proofs.OrderLemmas.{not_true, place_apart}
+use Rattle.vid_plane.specs.Picture.{Picture, pixel, run_of}
 use Rattle.thr_modes.specs.Vectors.{Offset}
 use Rattle.thr_recon.specs.Predicted.{flat, predicted_by}
+use Rattle.thr_recon.specs.Rebuilt.{block_of}
 use Rattle.thr_frame.specs.CodedFrame.{intra_mode}
 use Rattle.thr_frame.specs.Rebuilt.{Pair, reference_of}
 use Rattle.thr_frame.proofs.OwnLemmas.{own_place}
@@ -48,3 +51,18 @@ luma_is s m area places blocks at are long inside placed =
   where
     none : Block
     none = record { pli = 0; col = 0; row = 0 }
+
+-- and they are of the luma plane
+pub luma_plane : (s : Shape) (m k : ℕ) (area : Area) (places : List ℕ) (b : Block) → slice_get (macro_blocks s) m ≡ Some area → places ≡ map (place_of s) area.luma → length places ≡ 4 → k < 4 → IsBlock s b
+    → place_of s b ≡ get_or places k 0 → b.pli ≡ 0
+luma_plane s m k area places b at are four small is placed =
+    let own = own_place s m 0 4 k area places (omega arith) at (take_all 4 places (omega (arith, four)) ∙ are) (omega (arith, four)) small in
+    ap (λ (c : Block). c.pli) (place_apart s b own.block is own.is_block (placed ∙ sym own.at)) ∙ own.plane
+
+-- rows of a picture are a block
+pub rows_are : (p : Picture) (x y : ℕ)
+    → run_of p x y 8 ∷ run_of p x (y + 1) 8 ∷ run_of p x (y + 2) 8 ∷ run_of p x (y + 3) 8 ∷ run_of p x (y + 4) 8 ∷ run_of p x (y + 5) 8 ∷ run_of p x (y + 6) 8 ∷ run_of p x (y + 7) 8 ∷ []
+    ≡ block_of (λ u v. pixel p (x + u) (y + v))
+unfolding block_of run_of
+rows_are p x y =
+    ap (λ n. run_of p x n 8 ∷ run_of p x (y + 1) 8 ∷ run_of p x (y + 2) 8 ∷ run_of p x (y + 3) 8 ∷ run_of p x (y + 4) 8 ∷ run_of p x (y + 5) 8 ∷ run_of p x (y + 6) 8 ∷ run_of p x (y + 7) 8 ∷ []) (sym (add-zero y))
