@@ -1,5 +1,5 @@
 -- Sums over the blocks of a macro block. The search and the choice cite these.
-use Rattle.std.proofs.Common.{◌≡◌, ◌∙◌, ℕ, ◌+◌, ◌≤◌, List, [], ◌∷◌, length, get_or, map, sum, sum_by, All, refl, ap, sym, arith}
+use Rattle.std.proofs.Common.{◌≡◌, ◌∙◌, ℕ, zero, suc, ◌+◌, ◌<◌, List, [], ◌∷◌, length, get_or, map, sum, sum_by, All, refl, ap, sym, arith}
 use Rattle.std.proofs.Math.Nat.{zero-add}
 use Rattle.std.proofs.lemmas.List.Sums.{sum-map}
 use Rattle.vid_geom.specs.declared.block.Block.{Block}
@@ -7,6 +7,12 @@ use Rattle.vid_geom.proofs.ListLemmas.{map_agree}
 use Rattle.vid_plane.specs.declared.frame.Frame.{Frame}
 use Rattle.thr_recon.specs.Rebuilt.{block_of}
 use Rattle.enc_search.specs.Searched.{Samples, block_distance, block_samples, luma_distance, row_distance}
+
+-- an element, whatever stands for a missing one
+pub get_or_any : {X : Type 0} (xs : List X) (k : ℕ) (d e : X) → k < length xs → get_or xs k d ≡ get_or xs k e
+get_or_any [] k d e h = absurd (omega arith)
+get_or_any (x ∷ xs) zero d e h = refl
+get_or_any (x ∷ xs) (suc k) d e h = get_or_any xs k d e (omega arith)
 
 -- a sum of four
 pub four_sum : {X : Type 0} (f : X → ℕ) (xs : List X) (d : X) → length xs ≡ 4 → sum_by f xs ≡ f (get_or xs 0 d) + f (get_or xs 1 d) + f (get_or xs 2 d) + f (get_or xs 3 d)
