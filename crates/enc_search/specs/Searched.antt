@@ -1,7 +1,7 @@
 -- How well the luma blocks of a macro block are predicted, and the candidates that a prediction is compared with (own). s is the frame's
 -- shape, target the frame that is to be coded, refs the frames that it is predicted from, b a block; P gives the predicted samples of a
 -- block by column and row from its lower left one.
-use Rattle.std.specs.Prelude.{ℕ, ◌≤◌, ◌+◌, ◌*◌, ◌/◌, ◌%◌, ℤ, pos, ◌-ℤ◌, false, List, [], ◌∷◌, map, sum_by, All, Contains}
+use Rattle.std.specs.Prelude.{ℕ, ◌≤◌, ◌+◌, ◌*◌, ◌/◌, ◌%◌, ◌==◌, ℤ, pos, negsuc, false, List, [], ◌∷◌, map, sum_by, All, Contains, if◌then◌else◌}
 use Rattle.std.specs.List.{range_with_len}
 use Rattle.std.specs.Int.{abs_diff}
 use Rattle.vid_base.specs.declared.shape.Shape.{Shape}
@@ -50,9 +50,9 @@ candidate_samples refs Flat b = flat
 candidate_samples refs Golden b = predicted_by refs.golden.y (8 * b.col) (8 * b.row) (pos 0) (pos 0) false false
 candidate_samples refs (Moved across upwards) b = predicted_by refs.prev.y (8 * b.col) (8 * b.row) across upwards false false
 
--- the even numbers from -8 to 8, by k below 9
+-- the even numbers from -8 to 8 by k below 9, the nearest to 0 first: 0, -2, 2, -4, 4, -6, 6, -8, 8
 abbrev pub even : ℕ → ℤ
-even k = pos (2 * k) -ℤ pos 8
+even k = if k % 2 == 0 then pos k else negsuc k
 
 -- the vectors of two even components from -8 to 8: one by k below 81, and all
 abbrev pub even_vector : ℕ → Candidate

@@ -39,13 +39,17 @@ pub(crate) struct Found {
     pub distance: u32,
 }
 
-// An even component from -8 to 8.
+// An even component from -8 to 8, the nearest to 0 first: of equally good vectors the shorter is found first.
 fn even(k: u8) -> i8
     requires { k < 9 }
     ensures value { result ≡ even k }
     ensures small { IsComponent result }
 {
-    2 * (k as i8) - 8
+    if k % 2 == 0 {
+        k as i8
+    } else {
+        -1 - (k as i8)
+    }
 }
 
 // A vector of two such components.
