@@ -1,5 +1,5 @@
 // The best prediction of a macro block's luma (own).
-ghost use Rattle.std.specs.Prelude.{◌≡◌, ◌+◌, ◌*◌, ◌/◌, ◌%◌, ◌<◌, ◌≤◌, ℕ, ℤ, pos, ◌-ℤ◌, All, get_or, true};
+ghost use Rattle.std.specs.Prelude.{◌≡◌, ◌+◌, ◌*◌, ◌/◌, ◌%◌, ◌<◌, ◌≤◌, ℕ, ℤ, pos, ◌-ℤ◌, All, IfSome, get_or, true};
 ghost use Rattle.vid_geom.specs.declared.block.Block.{Block as BlockValue};
 ghost use Rattle.vid_plane.specs.Frames.{IsPlaneOf};
 ghost use Rattle.thr_modes.specs.Motion.{Memory};
@@ -63,6 +63,28 @@ fn even_vector(k: u8) -> Vector
         x: even(k % 9),
         y: even(k / 9),
     }
+}
+
+// A component half a sample less, the same, or half a sample more, if it is no larger than 31.
+fn beside(component: i8, k: u8) -> Option<i8>
+    requires component { IsComponent component }
+    requires rank { k < 3 }
+    ensures { IfSome result IsComponent }
+{
+    let moved = component + (k as i8) - 1;
+    if moved < -31 || moved > 31 {
+        return None;
+    }
+    Some(moved)
+}
+
+// A vector at most half a sample beside another on each axis.
+fn vector_beside(vector: Vector, k: u8) -> Option<Vector>
+    requires { k < 9 }
+{
+    let x = beside(vector.x, k % 3)?;
+    let y = beside(vector.y, k / 3)?;
+    Some(Vector { x, y })
 }
 
 impl Search<'_> {
@@ -168,6 +190,34 @@ impl Search<'_> {
         best
     }
 
+    // The better of a prediction and one by a vector beside another.
+    fn better_beside(&self, best: Found, vector: Vector, k: u8) -> Found
+        requires rank { k < 9 }
+        requires distance { best.distance ≡ distance_by self.now best.mode (offset_of best.vector) }
+        ensures distance { result.distance ≡ distance_by self.now result.mode (offset_of result.vector) }
+        ensures no_more { result.distance ≤ best.distance }
+        ensures allowed { (memory : Memory) → IsAllowed memory best.mode (offset_of best.vector) → IsAllowed memory result.mode (offset_of result.vector) }
+    {
+        match vector_beside(vector, k) {
+            Some(beside) => self.better(best, INTER_MV, beside),
+            None => best,
+        }
+    }
+
+    // The best of a prediction and those by vectors half a sample beside its own.
+    fn refined(&self, first: Found) -> Found
+        requires distance { first.distance ≡ distance_by self.now first.mode (offset_of first.vector) }
+        ensures distance { result.distance ≡ distance_by self.now result.mode (offset_of result.vector) }
+        ensures no_more { result.distance ≤ first.distance }
+        ensures allowed { (memory : Memory) → IsAllowed memory first.mode (offset_of first.vector) → IsAllowed memory result.mode (offset_of result.vector) }
+    {
+        let mut best = first;
+        for k in 0..9u8 {
+            best = self.better_beside(best, first.vector, k);
+        }
+        best
+    }
+
     // The prediction without motion.
     #[tactic(auto, unfolding(thr_modes::specs::Vectors::offset_of))]
     fn still(&self) -> Found
@@ -191,6 +241,7 @@ impl Search<'_> {
         let last2 = self.better(last, INTER_MV_LAST2, remembered.last2);
         let golden = self.better(last2, INTER_GOLDEN_NOMV, STILL);
         let flat = self.better(golden, INTRA, STILL);
-        self.moved(flat)
+        let moved = self.moved(flat);
+        self.refined(moved)
     }
 }

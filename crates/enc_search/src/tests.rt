@@ -17,8 +17,13 @@ enum Luma {
     SlopeMoved,
     Waves,
     WavesMoved,
+    WavesMixed,
     Grey,
     Black,
+}
+
+fn wave(x: u32) -> u8 {
+    (x.wrapping_mul(x) % 251) as u8
 }
 
 fn sample(luma: Luma, x: u32) -> u8 {
@@ -26,11 +31,13 @@ fn sample(luma: Luma, x: u32) -> u8 {
     match luma {
         Luma::Slope => (10 * column) as u8,
         Luma::SlopeMoved => (10 * (column + 2).min(15)) as u8,
-        Luma::Waves => (x.wrapping_mul(x) % 251) as u8,
-        Luma::WavesMoved => {
-            let from = x.saturating_sub(3);
-            (from.wrapping_mul(from) % 251) as u8
-        }
+        Luma::Waves => wave(x),
+        Luma::WavesMoved => wave(x.saturating_sub(3)),
+        Luma::WavesMixed => wave(if x / 16 == 1 {
+            x + 2
+        } else {
+            x.saturating_sub(3)
+        }),
         Luma::Grey => 128,
         Luma::Black => 0,
     }
@@ -132,9 +139,12 @@ fn a_macro_block_has_the_mode_and_the_vector_that_predict_it_best(rt: HostRuntim
 }
 
 #[test]
-fn a_vector_that_is_remembered_is_not_written_again(rt: HostRuntime) {
-    let choice = chosen(rt.alloc(), 3, Luma::WavesMoved, Luma::Waves, Luma::Black)
+fn vectors_that_are_remembered_are_not_coded_again(rt: HostRuntime) {
+    let same = chosen(rt.alloc(), 2, Luma::WavesMoved, Luma::Waves, Luma::Black)
         .expect(&rt, "no memory");
-    assert!(rt; choice.modes.as_slice() == [2u8, 3, 3].as_slice());
-    assert!(rt; choice.vectors.as_slice() == [Vector { x: -6, y: 0 }; 18].as_slice());
+    assert!(rt; same.modes.as_slice() == [2u8, 3].as_slice());
+    assert!(rt; same.vectors.as_slice() == [Vector { x: -6, y: 0 }; 12].as_slice());
+    let mixed = chosen(rt.alloc(), 3, Luma::WavesMixed, Luma::Waves, Luma::Black)
+        .expect(&rt, "no memory");
+    assert!(rt; mixed.modes.as_slice() == [2u8, 2, 4].as_slice());
 }

@@ -19,8 +19,9 @@ returns c =
     let flat = c.better-flat.ensures.allowed memory golden (flat_allowed memory) in
     let one : c.better-flat.result.distance ≤ distance_by s 1 still = c.better-flat.ensures.least in
     let five : c.better-golden.result.distance ≤ distance_by s 5 still = c.better-golden.ensures.least in
+    let moved = c.moved-moved.ensures.allowed memory flat in
     record {
-      allowed = c.moved.ensures.allowed memory flat;
-      least = least_found s c.moved.result.mode (offset_of c.moved.result.vector) c.moved.result.distance c.moved.ensures.distance (omega (arith, one, c.moved.ensures.no_more))
-          (omega (arith, five, c.better-flat.ensures.no_more, c.moved.ensures.no_more)) c.moved.ensures.least;
+      allowed = c.refined.ensures.allowed memory moved;
+      least = least_found s c.refined.result.mode (offset_of c.refined.result.vector) c.refined.result.distance c.refined.ensures.distance (omega (arith, one, c.moved-moved.ensures.no_more, c.refined.ensures.no_more))
+          (omega (arith, five, c.better-flat.ensures.no_more, c.moved-moved.ensures.no_more, c.refined.ensures.no_more)) (λ k h. omega (arith, c.moved-moved.ensures.least k h, c.refined.ensures.no_more));
     }
