@@ -92,8 +92,7 @@ pub fn choose(
     requires golden { IsFrameOf geom.now golden.now }
     requires prev_sealed { AreSealed prev.now }
     requires golden_sealed { AreSealed golden.now }
-    ensures modes_sized { IfOk result (λ c. length c.modes.items ≡ length (macro_blocks geom.now)) }
-    ensures sized { IfOk result (λ c. length c.vectors.items ≡ length (order_of geom.now)) }
+    ensures sized { IfOk result (λ c. (length c.modes.items ≡ length (macro_blocks geom.now)) × (length c.vectors.items ≡ length (order_of geom.now))) }
     ensures small { IfOk result (λ c. All (λ mode. mode < 8) c.modes.items) }
     ensures chosen { IfOk result (λ c. AreChosen geom.now (replicate (length (order_of geom.now)) true) c.modes.items (map offset_of c.vectors.items)) }
     ensures searched { IfOk result (λ c. IsSearched geom.now (record { prev = prev.now; golden = golden.now }) target.now (λ b. predictor_at geom.now (record { prev = prev.now; golden = golden.now }) (chosen_frame c.modes.items (map offset_of c.vectors.items)) b)) }
