@@ -1,9 +1,9 @@
 -- The modes and vectors that may be chosen. The search cites these.
-use Rattle.std.proofs.Common.{◌≡◌, ℕ, refl, arith}
+use Rattle.std.proofs.Common.{refl, arith}
 use Rattle.std.proofs.lemmas.Int.{ints}
 use Rattle.vid_base.specs.declared.shape.Vector.{Vector}
 use Rattle.thr_modes.specs.Chosen.{IsVector, motion_for}
-use Rattle.thr_modes.specs.Vectors.{Offset, offset_of, still}
+use Rattle.thr_modes.specs.Vectors.{offset_of, still}
 use Rattle.thr_modes.specs.Motion.{Memory}
 use Rattle.enc_search.specs.Found.{IsAllowed}
 

@@ -1,36 +1,28 @@
 -- Macro blocks for which a mode and a vector were chosen, one behind the other. `choose` cites these.
-use Rattle.std.proofs.Common.{◌≡◌, ◌∙◌, inl, inr, ℕ, ◌==◌, ◌+◌, ◌*◌, ◌<◌, ◌≤◌, Bool, true, false, List, [], ◌∷◌, ◌++◌, append_assoc, length, length-append, map, take, replicate, get_or, Some, slice_get, refl, ap, sym, subst, arith}
-use Rattle.std.specs.List.{All, Contains}
+use Rattle.std.proofs.Common.{◌≡◌, ◌∙◌, inl, inr, ℕ, ◌+◌, ◌<◌, Bool, true, List, [], ◌∷◌, ◌++◌, append_assoc, length, length-append, take, replicate, get_or, Some, slice_get, refl, ap, sym, subst, arith}
+use Rattle.std.specs.List.{All}
 use Rattle.std.proofs.Math.ListN.{get_or-append}
 use Rattle.std.proofs.lemmas.Bool.{cases_lt}
-use Rattle.std.proofs.lemmas.List.{append-nil, get_or-map, get_or_push, length-map, length-replicate, get_or-replicate, take_all, take_more, length-take-le}
-use Rattle.std.proofs.lemmas.List.Elements.{All-append, All-contains, All-replicate, Contains-append_left, Contains-get_or}
-use Rattle.std.proofs.lemmas.Option.{get_or_from_slice_get, same_Some, slice_get-get_or, slice_get-map, slice_get_within}
+use Rattle.std.proofs.lemmas.List.{append-nil, get_or_push, length-replicate, take_all, take_more, length-take-le}
+use Rattle.std.proofs.lemmas.List.Elements.{All-append, All-replicate}
+use Rattle.std.proofs.lemmas.Option.{get_or_from_slice_get, same_Some, slice_get_within}
 use Rattle.vid_base.specs.declared.shape.Shape.{Shape}
 use Rattle.vid_geom.specs.declared.block.Block.{Block}
-use Rattle.vid_geom.specs.CodedOrder.{IsBlock, order_of, place_of}
+use Rattle.vid_geom.specs.CodedOrder.{order_of}
 use Rattle.vid_geom.specs.MacroBlocks.{Area, macro_blocks}
-use Rattle.vid_geom.specs.ByBlock.{macro_place}
-use Rattle.vid_geom.proofs.ByBlockLemmas.{macro_place_is}
-use Rattle.vid_geom.proofs.ListLemmas.{All-at, slice_get-Contains}
 use Rattle.vid_plane.specs.declared.frame.Frame.{Frame}
 use Rattle.thr_modes.specs.Chosen.{AreChosen, AreChosenFrom, IsChosen, IsVector, memory_behind}
 use Rattle.thr_modes.specs.LumaFlags.{macro_flags}
 use Rattle.thr_modes.specs.Vectors.{Offset, still}
 use Rattle.thr_modes.specs.Motion.{Memory, Motion, by_block, empty, same_motion}
 use Rattle.thr_modes.specs.Placing.{put_all, put_motion}
-use Rattle.thr_modes.specs.WrittenVectors.{luma_vectors, macro_vectors}
 use Rattle.thr_modes.proofs.BlockLemmas.{put_all_by_block}
 use Rattle.thr_modes.proofs.FoldLemmas.{four_flags}
-use Rattle.thr_modes.proofs.FrameBack.{macro_vectors_are}
 use Rattle.thr_modes.proofs.LumaLemmas.{flags_long}
-use Rattle.thr_modes.proofs.MotionSizes.{AreMotions, HasVectors}
-use Rattle.thr_modes.proofs.VectorsBack.{luma_of}
-use Rattle.thr_frame.specs.CodedFrame.{intra_mode}
-use Rattle.thr_frame.specs.Rebuilt.{Pair, mode_at, predictor_at}
-use Rattle.enc_search.specs.ChosenFrame.{chosen_frame}
+use Rattle.thr_modes.proofs.MotionSizes.{HasVectors}
+use Rattle.thr_frame.specs.Rebuilt.{Pair}
 use Rattle.enc_search.specs.Found.{IsFound, luma_samples}
-use Rattle.enc_search.specs.Searched.{IsLeast, IsSearched, luma_distance}
+use Rattle.enc_search.specs.Searched.{IsLeast}
 use Rattle.enc_search.proofs.PutLemmas.{put_all_push}
 
 -- the flags of the macro blocks where all blocks are coded

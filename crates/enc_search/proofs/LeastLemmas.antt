@@ -1,10 +1,9 @@
 -- A distance that is no more than that of any candidate. The search cites these.
-use Rattle.std.proofs.Common.{◌≡◌, ℕ, zero, suc, ◌<◌, ◌≤◌, ◌/◌, ◌%◌, ℤ, List, get_or, length, refl, sym, ap, ◌∙◌, arith}
+use Rattle.std.proofs.Common.{◌≡◌, ℕ, zero, suc, ◌<◌, ◌≤◌, ◌/◌, ◌%◌, ℤ, List, get_or, length, refl, ap, ◌∙◌, arith}
 use Rattle.std.proofs.lemmas.List.FromFn.{get_or-map-range_with_len, length-map-range_with_len}
 use Rattle.vid_geom.specs.declared.block.Block.{Block}
 use Rattle.vid_plane.specs.declared.frame.Frame.{Frame}
 use Rattle.thr_modes.specs.Vectors.{Offset, still}
-use Rattle.thr_recon.specs.Predicted.{flat}
 use Rattle.thr_frame.specs.Rebuilt.{Pair}
 use Rattle.enc_search.specs.Found.{luma_samples}
 use Rattle.enc_search.specs.declared.frames.Search.{Search}

@@ -1,5 +1,5 @@
 -- The predicted samples of luma blocks, and the blocks at the places of a macro block. The search and the choice cite these.
-use Rattle.std.proofs.Common.{◌≡◌, ◌∙◌, ℕ, zero, suc, ◌==◌, ◌+◌, ◌*◌, ◌<◌, ◌≤◌, Bool, true, false, List, [], ◌∷◌, ◌++◌, length, map, take, get_or, Some, slice_get, refl, ap, sym, arith}
+use Rattle.std.proofs.Common.{◌≡◌, ◌∙◌, ℕ, ◌==◌, ◌+◌, ◌*◌, ◌<◌, false, List, [], ◌∷◌, ◌++◌, length, map, get_or, Some, slice_get, refl, ap, sym, arith}
 use Rattle.std.specs.List.{All, Contains}
 use Rattle.std.proofs.Math.Nat.{add-zero}
 use Rattle.std.proofs.lemmas.Bool.{eqb-true}
@@ -19,7 +19,7 @@ use Rattle.thr_recon.specs.Rebuilt.{block_of}
 use Rattle.thr_frame.specs.CodedFrame.{intra_mode}
 use Rattle.thr_frame.specs.Rebuilt.{Pair, reference_of}
 use Rattle.thr_frame.proofs.OwnLemmas.{own_place}
-use Rattle.enc_search.specs.Found.{IsLuma, luma_samples}
+use Rattle.enc_search.specs.Found.{luma_samples}
 
 -- an intra block
 pub flat_luma : (refs : Pair) (mode : ℕ) (v : Offset) (b : Block) → mode ≡ 1 → flat ≡ luma_samples refs mode v b

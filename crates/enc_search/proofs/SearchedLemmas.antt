@@ -1,5 +1,5 @@
 -- What was chosen predicts the luma of each macro block no worse than the candidates. `choose` cites the last one.
-use Rattle.std.proofs.Common.{◌≡◌, ◌∙◌, ℕ, ◌*◌, ◌<◌, ◌≤◌, ◌++◌, false, List, [], length, map, replicate, get_or, Some, slice_get, refl, ap, sym, arith}
+use Rattle.std.proofs.Common.{◌≡◌, ◌∙◌, ℕ, ◌<◌, ◌++◌, List, [], length, map, replicate, get_or, Some, slice_get, refl, ap, sym, arith}
 use Rattle.std.specs.List.{All, Contains}
 use Rattle.std.proofs.lemmas.List.{get_or-map, get_or-replicate, length-map}
 use Rattle.std.proofs.lemmas.List.Elements.{Contains-append_left, Contains-get_or}
@@ -16,15 +16,14 @@ use Rattle.thr_modes.specs.Motion.{Memory, Motion, same_motion}
 use Rattle.thr_modes.specs.WrittenVectors.{luma_vectors, macro_vectors}
 use Rattle.thr_modes.proofs.AreaLemmas.{sizes_at}
 use Rattle.thr_modes.proofs.FrameBack.{macro_vectors_are}
-use Rattle.thr_modes.proofs.VectorsBack.{luma_of}
 use Rattle.thr_frame.specs.CodedFrame.{CodedFrame}
 use Rattle.thr_frame.specs.Rebuilt.{Pair, mode_at, predictor_at}
 use Rattle.enc_search.specs.ChosenFrame.{chosen_frame}
 use Rattle.enc_search.specs.Found.{luma_samples}
-use Rattle.enc_search.specs.Searched.{Samples, Candidate, IsLeast, IsSearched, block_distance, block_samples, candidate_samples, candidates, luma_distance}
+use Rattle.enc_search.specs.Searched.{Samples, IsLeast, IsSearched, block_distance, block_samples, luma_distance}
 use Rattle.enc_search.proofs.SumLemmas.{same_sum}
 use Rattle.enc_search.proofs.LumaLemmas.{luma_inside, luma_plane}
-use Rattle.enc_search.proofs.ChoiceLemmas.{AreFirst, IsChoice, all_placed, no_motion}
+use Rattle.enc_search.proofs.ChoiceLemmas.{AreFirst, all_placed, no_motion}
 
 -- predictions that agree on the blocks are equally far
 distance_same : (target : Frame) (P Q : Block → Samples) (blocks : List Block) → All (λ b. P b ≡ Q b) blocks → luma_distance target P blocks ≡ luma_distance target Q blocks
@@ -74,8 +73,10 @@ own_samples s refs target modes memory vectors k area v first at is = λ j d h.
 
 pub all_searched : (s : Shape) (refs : Pair) (target : Frame) (modes : List ℕ) (memory : Memory) (vectors : List Offset) → AreFirst s refs target modes memory vectors (length (macro_blocks s))
     → IsSearched s refs target (λ b. predictor_at s refs (chosen_frame modes vectors) b)
-all_searched s refs target modes memory vectors first = record { least = λ area among.
-    (let found = slice_get-Contains (macro_blocks s) area among in
-    let choice = first.each found.0 area (slice_get_within (macro_blocks s) found.0 area found.1) found.1 in
-    least_same refs target (λ b. predictor_at s refs (chosen_frame modes vectors) b) (luma_samples refs (get_or modes found.0 0) choice.v) area.luma
-    (own_samples s refs target modes memory vectors found.0 area choice.v first found.1 choice.is) choice.least) }
+all_searched s refs target modes memory vectors first = record {
+  least = λ area among.
+      (let found = slice_get-Contains (macro_blocks s) area among in
+      let choice = first.each found.0 area (slice_get_within (macro_blocks s) found.0 area found.1) found.1 in
+      least_same refs target (λ b. predictor_at s refs (chosen_frame modes vectors) b) (luma_samples refs (get_or modes found.0 0) choice.v) area.luma
+      (own_samples s refs target modes memory vectors found.0 area choice.v first found.1 choice.is) choice.least);
+}

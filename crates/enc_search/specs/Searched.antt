@@ -1,7 +1,7 @@
 -- How well the luma blocks of a macro block are predicted, and the candidates that a prediction is compared with (own). s is the frame's
 -- shape, target the frame that is to be coded, refs the frames that it is predicted from, b a block; P gives the predicted samples of a
 -- block by column and row from its lower left one.
-use Rattle.std.specs.Prelude.{ℕ, ◌≤◌, ◌+◌, ◌*◌, ◌/◌, ◌%◌, ◌==◌, ℤ, pos, negsuc, false, List, [], ◌∷◌, map, sum_by, All, Contains, if◌then◌else◌}
+use Rattle.std.specs.Prelude.{ℕ, ◌≤◌, ◌+◌, ◌*◌, ◌/◌, ◌%◌, ◌==◌, ℤ, pos, negsuc, false, List, ◌∷◌, map, sum_by, All, Contains, if◌then◌else◌}
 use Rattle.std.specs.List.{range_with_len}
 use Rattle.std.specs.Int.{abs_diff}
 use Rattle.vid_base.specs.declared.shape.Shape.{Shape}

@@ -1,6 +1,5 @@
 -- What values of the code say (own).
-use Rattle.std.specs.Prelude.{ℕ, List}
-use Rattle.vid_geom.specs.declared.block.Block.{Block}
+use Rattle.std.specs.Prelude.{ℕ}
 use Rattle.thr_modes.specs.Vectors.{Offset, offset_of}
 use Rattle.thr_modes.specs.Motion.{Memory}
 use Rattle.thr_frame.specs.Rebuilt.{Pair}

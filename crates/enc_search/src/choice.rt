@@ -1,5 +1,5 @@
 // The modes and vectors of a frame to be coded (own).
-ghost use Rattle.std.specs.Prelude.{◌≡◌, ◌+◌, ◌<◌, true, [], All, IfOk, IsSomeAnd, OnOk, length, map, replicate, slice_get};
+ghost use Rattle.std.specs.Prelude.{◌≡◌, ◌<◌, true, [], All, IfOk, IsSomeAnd, OnOk, length, map, replicate, slice_get};
 ghost use Rattle.vid_geom.specs.CodedOrder.{order_of};
 ghost use Rattle.vid_geom.specs.MacroBlocks.{macro_blocks};
 ghost use Rattle.vid_plane.specs.Frames.{IsFrameOf};
@@ -46,11 +46,7 @@ fn find(frames: &Frames<'_>, m: u32, remembered: Remembered) -> Found
 }
 
 // Those of all macro blocks.
-fn fill(
-    frames: &Frames<'_>,
-    modes: &mut Vec<u8>,
-    vectors: &mut [Vector],
-) -> Result<(), NoMem>
+fn fill(frames: &Frames<'_>, modes: &mut Vec<u8>, vectors: &mut [Vector]) -> Result<(), NoMem>
     requires empty { modes.old.items ≡ [] }
     requires still { map offset_of vectors.old ≡ replicate (length (order_of frames.now.geom.now)) still }
     ensures modes { OnOk result (length modes.new.items ≡ length (macro_blocks frames.now.geom.now)) }

@@ -1,8 +1,7 @@
 // How far the samples of two blocks are apart (own).
-ghost use Rattle.std.specs.Prelude.{◌≡◌, ◌+◌, ◌≤◌, [], sum_by, slice_index, slice_index_or, ℕ};
+ghost use Rattle.std.specs.Prelude.{◌≡◌, ◌+◌, ◌≤◌, [], sum_by, slice_index, slice_index_or};
 ghost use Rattle.std.specs.List.{range_with_len};
 ghost use Rattle.std.specs.Int.{abs_diff};
-ghost use Rattle.thr_recon.specs.Rebuilt.{block_of};
 ghost use Rattle.enc_search.specs.Searched.{block_distance};
 
 /// Two samples.

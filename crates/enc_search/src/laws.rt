@@ -1,8 +1,6 @@
 // Laws of the definitions alone.
 ghost use Rattle.std.specs.Prelude.{◌≡◌, length};
-ghost use Rattle.vid_base.specs.declared.shape.Shape.{Shape};
-ghost use Rattle.enc_search.specs.Searched.{candidates, IsSearched};
-ghost use Rattle.enc_search.specs.ChosenFrame.{chosen_frame};
+ghost use Rattle.enc_search.specs.Searched.{candidates};
 
 /// There are 83 candidates.
 #[tactic(auto, unfolding(crate::specs::Searched::candidates, crate::specs::Searched::moves))]

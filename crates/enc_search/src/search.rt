@@ -1,5 +1,5 @@
 // The best prediction of a macro block's luma (own).
-ghost use Rattle.std.specs.Prelude.{◌≡◌, ◌+◌, ◌*◌, ◌/◌, ◌%◌, ◌<◌, ◌≤◌, ℕ, ℤ, pos, ◌-ℤ◌, All, IfSome, get_or, true};
+ghost use Rattle.std.specs.Prelude.{◌≡◌, ◌+◌, ◌*◌, ◌/◌, ◌%◌, ◌<◌, ◌≤◌, ℕ, IfSome, get_or, true};
 ghost use Rattle.vid_geom.specs.declared.block.Block.{Block as BlockValue};
 ghost use Rattle.vid_plane.specs.Frames.{IsPlaneOf};
 ghost use Rattle.thr_modes.specs.Motion.{Memory};
@@ -45,11 +45,7 @@ fn even(k: u8) -> i8
     ensures value { result ≡ even k }
     ensures small { IsComponent result }
 {
-    if k % 2 == 0 {
-        k as i8
-    } else {
-        -1 - (k as i8)
-    }
+    if k % 2 == 0 { k as i8 } else { -1 - (k as i8) }
 }
 
 // A vector of two such components.

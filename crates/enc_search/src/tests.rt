@@ -1,4 +1,4 @@
-ghost use Rattle.std.specs.Prelude.{◌≡◌, IfOk, true};
+ghost use Rattle.std.specs.Prelude.{IfOk};
 ghost use Rattle.vid_plane.specs.Picture.{IsLike};
 ghost use Rattle.vid_plane.specs.Frames.{IsFrameOf};
 ghost use Rattle.thr_frame.specs.Painted.{AreSealed};
@@ -120,13 +120,7 @@ const ONE: [(Luma, Luma, Luma, u8, Vector); 6] = [
         0,
         Vector { x: 0, y: 0 },
     ),
-    (
-        Luma::Grey,
-        Luma::Grey,
-        Luma::Grey,
-        0,
-        Vector { x: 0, y: 0 },
-    ),
+    (Luma::Grey, Luma::Grey, Luma::Grey, 0, Vector { x: 0, y: 0 }),
 ];
 
 #[test]
@@ -134,17 +128,24 @@ fn a_macro_block_has_the_mode_and_the_vector_that_predict_it_best(rt: HostRuntim
     for (target, prev, golden, mode, vector) in ONE {
         let choice = chosen(rt.alloc(), 1, target, prev, golden).expect(&rt, "no memory");
         assert!(rt; choice.modes.as_slice() == [mode].as_slice(), "{mode}");
-        assert!(rt; choice.vectors.as_slice() == [vector; 6].as_slice(), "{mode}");
+        assert!(rt;
+            choice.vectors.as_slice() == [vector; 6].as_slice(),
+            "{mode}"
+        );
     }
 }
 
 #[test]
 fn vectors_that_are_remembered_are_not_coded_again(rt: HostRuntime) {
-    let same = chosen(rt.alloc(), 2, Luma::WavesMoved, Luma::Waves, Luma::Black)
-        .expect(&rt, "no memory");
+    let same = chosen(rt.alloc(), 2, Luma::WavesMoved, Luma::Waves, Luma::Black).expect(
+        &rt,
+        "no memory",
+    );
     assert!(rt; same.modes.as_slice() == [2u8, 3].as_slice());
     assert!(rt; same.vectors.as_slice() == [Vector { x: -6, y: 0 }; 12].as_slice());
-    let mixed = chosen(rt.alloc(), 3, Luma::WavesMixed, Luma::Waves, Luma::Black)
-        .expect(&rt, "no memory");
+    let mixed = chosen(rt.alloc(), 3, Luma::WavesMixed, Luma::Waves, Luma::Black).expect(
+        &rt,
+        "no memory",
+    );
     assert!(rt; mixed.modes.as_slice() == [2u8, 2, 4].as_slice());
 }

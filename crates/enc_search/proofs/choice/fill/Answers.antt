@@ -1,8 +1,7 @@
-use Rattle.std.proofs.Common.{◌≡◌, ◌∙◌, ◌++◌, length, map, slice_get, ap, arith}
+use Rattle.std.proofs.Common.{◌≡◌, ◌∙◌, length, map, slice_get, ap, arith}
 use Rattle.std.proofs.lemmas.List.{length-map, length-replicate}
 use Rattle.vid_geom.specs.CodedOrder.{order_of}
 use Rattle.vid_geom.specs.MacroBlocks.{IsMacroBlock, macro_blocks}
-use Rattle.thr_modes.specs.Motion.{same_motion}
 use Rattle.thr_modes.specs.Placing.{put_motion}
 use Rattle.thr_modes.specs.Vectors.{offset_of, still}
 use Rattle.thr_modes.proofs.AreaLemmas.{numbers_are, sizes_at}

@@ -1,5 +1,4 @@
-use Rattle.std.proofs.Common.{◌≡◌, length, map}
-use Rattle.vid_geom.specs.CodedOrder.{order_of}
+use Rattle.std.proofs.Common.{map}
 use Rattle.thr_modes.specs.Vectors.{offset_of}
 use Rattle.enc_search.specs.Views.{memory_of, refs_of}
 use Rattle.enc_search.proofs.ChoiceLemmas.{AreFirst}

@@ -1,4 +1,3 @@
-use Rattle.std.proofs.Common.{◌≡◌}
 use Rattle.enc_search.proofs.LumaLemmas.{rows_are}
 use Rattle.enc_search.proofs.frames.rows.Goals as goal
 

@@ -1,4 +1,4 @@
-use Rattle.std.proofs.Common.{◌≡◌, ◌∙◌, ◌<◌, length, map, get_or, replicate, sym, refl, arith}
+use Rattle.std.proofs.Common.{◌∙◌, ◌<◌, length, map, get_or, replicate, sym, refl, arith}
 use Rattle.std.proofs.lemmas.List.{map-set, length-replicate, get_or-replicate}
 use Rattle.thr_modes.specs.Vectors.{offset_of}
 use Rattle.thr_modes.proofs.PutLemmas.{put_more, put_done}

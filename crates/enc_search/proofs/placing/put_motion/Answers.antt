@@ -1,7 +1,7 @@
-use Rattle.std.proofs.Common.{◌≡◌, ◌∙◌, ◌≤◌, ◌<◌, ◌++◌, ℕ, List, length, map, replicate, take, sym, ap, arith}
+use Rattle.std.proofs.Common.{◌≡◌, ◌∙◌, ◌≤◌, ◌<◌, ◌++◌, ℕ, length, map, replicate, take, sym, arith}
 use Rattle.std.proofs.lemmas.List.{length-replicate, length-take-le}
 use Rattle.std.proofs.lemmas.List.Elements.{All-take}
-use Rattle.thr_modes.specs.Vectors.{Offset, offset_of}
+use Rattle.thr_modes.specs.Vectors.{offset_of}
 use Rattle.thr_modes.specs.Motion.{block_vectors, chroma_count, same_motion}
 use Rattle.thr_modes.proofs.AreaLemmas.{put_three}
 use Rattle.thr_modes.proofs.LumaLemmas.{All-left, All-right}

@@ -1,4 +1,4 @@
-use Rattle.std.proofs.Common.{◌≡◌, ◌+◌, get_or, arith}
+use Rattle.std.proofs.Common.{arith}
 use Rattle.vid_geom.specs.declared.block.Block.{Block}
 use Rattle.thr_modes.specs.Vectors.{offset_of}
 use Rattle.enc_search.specs.Found.{luma_samples}

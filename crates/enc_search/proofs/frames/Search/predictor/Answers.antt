@@ -1,4 +1,4 @@
-use Rattle.std.proofs.Common.{◌≡◌, ◌∙◌}
+use Rattle.std.proofs.Common.{◌∙◌}
 use Rattle.thr_modes.specs.Vectors.{offset_of}
 use Rattle.thr_recon.specs.Predicted.{shown, predicted}
 use Rattle.enc_search.specs.Views.{refs_of}
