@@ -77,7 +77,7 @@ in_order s all long =
     get_or-map vector (macro_order s) j none still within ∙ by_block_at s all j (get_or (macro_order s) j none) (slice_get-get_or (macro_order s) j none within)))
 
 -- the luma blocks have the vectors of their macro blocks
-macro_vectors_are : (s : Shape) (all : List Motion) → AreMotions s.pf (length (macro_blocks s)) all → macro_vectors s (by_block s all) ≡ luma_of all
+pub macro_vectors_are : (s : Shape) (all : List Motion) → AreMotions s.pf (length (macro_blocks s)) all → macro_vectors s (by_block s all) ≡ luma_of all
 unfolding macro_vectors luma_vectors macro_order
 macro_vectors_are s all are =
     luma_parts s.pf (λ b. get_or (by_block s all) (place_of s b) still) (macro_blocks s) all (sizes s) are.each (sym are.long) (in_order s all (both_long s.pf (macro_blocks s) all (sizes s) are.each (sym are.long)))

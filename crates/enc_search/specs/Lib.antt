@@ -1,0 +1,4 @@
+pub mod Searched
+pub mod ChosenFrame
+pub mod Found
+pub mod Views
