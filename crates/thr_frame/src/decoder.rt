@@ -1,5 +1,8 @@
 // A decoder of frames, packet after packet (Theora I, 7.11).
 ghost use Rattle.std.specs.Prelude.{◌≡◌, Err, IfErr, IfOk, IsSomeAnd, None, OnErr, OnOk, is_some, true};
+ghost use Rattle.thr_ident.specs.Ident.{header_of};
+ghost use Rattle.thr_ident.specs.Shape.{shape_of};
+ghost use Rattle.vid_plane.specs.Frames.{IsFrameOf};
 ghost use Rattle.thr_setup.specs.Setup.{contents};
 ghost use Rattle.thr_frame.specs.Step.{step};
 ghost use Rattle.thr_frame.specs.Decoding.{IsNext, IsShapeOf, kind_in};
@@ -51,6 +54,7 @@ impl Decoder {
         ensures ident { IfOk result (λ d. d.ident ≡ ident.now) }
         ensures setup { IfOk result (λ d. d.setup ≡ contents setup.now) }
         ensures shape { IfOk result (λ d. IsShapeOf ident.now d.shape) }
+        ensures announced { IfOk result (λ d. d.shape ≡ shape_of (header_of ident.now)) }
         ensures state { IfOk result (λ d. d.state ≡ None) }
     {
         let shape = ident.shape();
@@ -105,7 +109,8 @@ impl Decoder {
     /// The frame that is shown: the one of the last step.
     pub fn frame(&self) -> &Frame
         requires { is_some self.now.state ≡ true }
-        ensures { IsSomeAnd self.now.state (λ pair. result.now ≡ pair.prev) }
+        ensures value { IsSomeAnd self.now.state (λ pair. result.now ≡ pair.prev) }
+        ensures sized { IsFrameOf self.now.shape result.now }
     {
         self.store.prev()
     }
