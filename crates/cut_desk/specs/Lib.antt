@@ -1,5 +1,6 @@
 pub mod Inputs
 pub mod Outputs
 pub mod Making
+pub mod Growing
 pub mod Statuses
 pub mod Looking
