@@ -1,11 +1,12 @@
 -- The causes of two statuses of a command exclude each other, but for the faults of a desk and want of memory; so where all is
 -- given and no fault was counted, a command is done. The top call cites these.
-use Rattle.std.proofs.Common.{◌≡◌, ℕ, ◌≤◌, List, length, Option, Some, None, Ok, Err, inl, inr, ◌⊎◌, refl, ap, sym, ◌∙◌, arith}
+use Rattle.std.proofs.Common.{◌≡◌, ℕ, ◌≤◌, List, length, Option, Some, None, Ok, Err, true, false, inl, inr, ◌⊎◌, refl, ap, sym, ◌∙◌, arith}
+use Rattle.std.proofs.lemmas.Bool.{true≢false}
 use Rattle.vid_desk.specs.Meaning.{File, Meaning, Rose}
 use Rattle.src_index.specs.Judge.{Verdict}
 use Rattle.cut_desk.specs.Inputs.{IsAbsent, IsOverlong}
 use Rattle.cut_desk.specs.Outputs.{IsCalm, LeavesOutputs}
-use Rattle.cut_desk.specs.Statuses.{IsOutside}
+use Rattle.cut_desk.specs.Statuses.{IsOutside, LeavesOutputsAt}
 use Rattle.cut_desk.proofs.InputLemmas.{not_absent}
 use Rattle.cut_slice.proofs.CauseLemmas.{one_status as one_of_cut}
 use Rattle.cut_app.proofs.FindingLemmas.{one_finding}
@@ -13,10 +14,11 @@ use Rattle.cut_app.proofs.PlanCauseLemmas.{one_of_plan}
 use Rattle.cut_report.specs.declared.status.Status.{Status}
 use Rattle.cut_report.specs.declared.status.Status.TheVariants.{Done, Usage, NoFile, BadSource, BadList, Range, ReadFault, WriteFault, NoMem, TooLong, SameName, Changed, InPointNotKey, NotYet}
 use Rattle.cut_app.specs.Forms.{Form}
-use Rattle.cut_app.specs.Forms.Form.{Checking, Cutting, Planning}
+use Rattle.cut_app.specs.Forms.Form.{Checking, Cutting, Exporting, Planning}
+use Rattle.cut_app.specs.Exports.{Export, LeavesUntil, is_same}
 use Rattle.cut_app.specs.Found.{IsFound}
-use Rattle.cut_app.specs.Causes.{CausedBy, CheckCaused, FormCaused, IsOnly, one_source, source_input, what_of}
-use Rattle.cut_app.specs.Commands.{Completes, CreatesWhenGiven, IsGivenAll, Tells}
+use Rattle.cut_app.specs.Causes.{CausedBy, CheckCaused, ExportCaused, FormCaused, IsOnly, one_source, source_input, what_of}
+use Rattle.cut_app.specs.Commands.{Completes, CreatesWhenGiven, IsGivenAll, LeavesBy, Tells}
 
 -- how a check ends that its file brings to its end: it is not there, it has too many bytes, or judging finds this
 data End : Type 0 where
@@ -93,8 +95,48 @@ one_of_check file files a b x y = elim (end_of file files a x) [
   ]
 ]
 
+-- an export is refused for its names, or ends as a check of its file does, but for what no input is the cause of
+parts_of : (export : Export) (files : List File) (status : Status) → ExportCaused export files status
+    → IsOutside status ⊎ (((status ≡ SameName) × (is_same export ≡ true)) ⊎ ((is_same export ≡ false) × CheckCaused export.file files status))
+parts_of export files Done cause = inr (inr cause)
+parts_of export files SameName cause = inr (inl (refl, cause))
+parts_of export files (NoFile input) cause = inr (inr cause)
+parts_of export files (BadSource source what) cause = inr (inr cause)
+parts_of export files (TooLong input size) cause = inr (inr cause)
+parts_of export files ReadFault cause = inl tt
+parts_of export files WriteFault cause = inl tt
+parts_of export files NoMem cause = inl tt
+parts_of export files Usage cause = absurd cause
+parts_of export files Changed cause = absurd cause
+parts_of export files (BadList line why) cause = absurd cause
+parts_of export files (Range line) cause = absurd cause
+parts_of export files InPointNotKey cause = absurd cause
+parts_of export files NotYet cause = absurd cause
+
+same_and_apart : (export : Export) → is_same export ≡ true → is_same export ≡ false → ⊥
+same_and_apart export same apart = true≢false (sym same ∙ apart)
+
+one_of_export : (export : Export) (files : List File) (a b : Status) → ExportCaused export files a → ExportCaused export files b → IsOutside a ⊎ (IsOutside b ⊎ (a ≡ b))
+one_of_export export files a b x y = elim (parts_of export files a x) [
+  | inl outside ↦ inl outside
+  | inr first ↦ elim (parts_of export files b y) [
+    | inl outside ↦ inr (inl outside)
+    | inr second ↦ elim first [
+      | inl same ↦ elim second [
+        | inl also ↦ inr (inr (same.0 ∙ sym also.0))
+        | inr apart ↦ absurd (same_and_apart export same.1 apart.0)
+      ]
+      | inr apart ↦ elim second [
+        | inl same ↦ absurd (same_and_apart export same.1 apart.0)
+        | inr also ↦ one_of_check export.file files a b apart.1 also.1
+      ]
+    ]
+  ]
+]
+
 one_of_form : (form : Form) (files : List File) (a b : Status) → FormCaused form files a → FormCaused form files b → IsOutside a ⊎ (IsOutside b ⊎ (a ≡ b))
 one_of_form (Checking file) files a b x y = one_of_check file files a b x y
+one_of_form (Exporting export) files a b x y = one_of_export export files a b x y
 one_of_form (Planning plan) files a b x y = one_of_plan plan files a b x y
 one_of_form (Cutting cut) files a b x y = one_of_cut cut files a b x y
 
@@ -130,11 +172,73 @@ only_told mid new form files status told cause tells = elim tells [
 -- a line that is told asks nothing of the outputs
 pub created_told : (old mid new : Meaning) (form : Form) (files : List File) → new ≡ record mid { said = new.said; write_faults = new.write_faults } → CreatesWhenGiven old mid (Some form) files → CreatesWhenGiven old new (Some form) files
 created_told old mid new (Checking file) files kept left = left_told old mid new kept left
+created_told old mid new (Exporting export) files kept created = elim created [
+  | inl left ↦ inl (left_told old mid new kept left)
+  | inr given ↦ inr given
+]
 created_told old mid new (Planning plan) files kept left = left_told old mid new kept left
 created_told old mid new (Cutting cut) files kept created = elim created [
   | inl left ↦ inl (left_told old mid new kept left)
   | inr given ↦ inr given
 ]
+
+-- what a status says of the outputs stays over the telling
+left_at : (old mid new : Meaning) (status : Status) → new ≡ record mid { said = new.said; write_faults = new.write_faults } → LeavesOutputsAt status old mid → LeavesOutputsAt status old new
+left_at old mid new Done kept left = tt
+left_at old mid new WriteFault kept left = tt
+left_at old mid new NoMem kept left = tt
+left_at old mid new Usage kept left = left_told old mid new kept left
+left_at old mid new Changed kept left = left_told old mid new kept left
+left_at old mid new SameName kept left = left_told old mid new kept left
+left_at old mid new (BadList line why) kept left = left_told old mid new kept left
+left_at old mid new (Range line) kept left = left_told old mid new kept left
+left_at old mid new (NoFile input) kept left = left_told old mid new kept left
+left_at old mid new (BadSource source what) kept left = left_told old mid new kept left
+left_at old mid new (TooLong input size) kept left = left_told old mid new kept left
+left_at old mid new InPointNotKey kept left = left_told old mid new kept left
+left_at old mid new NotYet kept left = left_told old mid new kept left
+left_at old mid new ReadFault kept left = left_told old mid new kept left
+
+left_until : (old mid new : Meaning) (status : Status) → new ≡ record mid { said = new.said; write_faults = new.write_faults } → LeavesUntil status old mid → LeavesUntil status old new
+left_until old mid new Done kept left = tt
+left_until old mid new WriteFault kept left = tt
+left_until old mid new NoMem kept left = tt
+left_until old mid new ReadFault kept left = tt
+left_until old mid new Changed kept left = tt
+left_until old mid new Usage kept left = left_told old mid new kept left
+left_until old mid new SameName kept left = left_told old mid new kept left
+left_until old mid new (BadList line why) kept left = left_told old mid new kept left
+left_until old mid new (Range line) kept left = left_told old mid new kept left
+left_until old mid new (NoFile input) kept left = left_told old mid new kept left
+left_until old mid new (BadSource source what) kept left = left_told old mid new kept left
+left_until old mid new (TooLong input size) kept left = left_told old mid new kept left
+left_until old mid new InPointNotKey kept left = left_told old mid new kept left
+left_until old mid new NotYet kept left = left_told old mid new kept left
+
+left_by : (old mid new : Meaning) (form : Form) (status : Status) → new ≡ record mid { said = new.said; write_faults = new.write_faults } → LeavesBy (Some form) status old mid → LeavesBy (Some form) status old new
+left_by old mid new (Checking file) status kept left = left_at old mid new status kept left
+left_by old mid new (Exporting export) status kept left = left_until old mid new status kept left
+left_by old mid new (Planning plan) status kept left = left_at old mid new status kept left
+left_by old mid new (Cutting cut) status kept left = left_at old mid new status kept left
+
+-- want of memory says nothing of the outputs
+no_memory : (old new : Meaning) (form : Form) → LeavesBy (Some form) NoMem old new
+no_memory old new (Checking file) = tt
+no_memory old new (Exporting export) = tt
+no_memory old new (Planning plan) = tt
+no_memory old new (Cutting cut) = tt
+
+pub before_told : (old mid new : Meaning) (form : Form) (status told : Status) → new ≡ record mid { said = new.said; write_faults = new.write_faults } → Tells mid new status told → LeavesBy (Some form) status old mid → LeavesBy (Some form) told old new
+before_told old mid new form status told kept tells left = elim tells [
+  | inl same ↦ rw same.0 (left_by old mid new form status kept left)
+  | inr none ↦ rw none.0 (no_memory old new form)
+]
+
+pub before_done : (old new : Meaning) (form : Form) → LeavesBy (Some form) Done old new
+before_done old new (Checking file) = tt
+before_done old new (Exporting export) = tt
+before_done old new (Planning plan) = tt
+before_done old new (Cutting cut) = tt
 
 -- a status that no input is the cause of is want of memory, where no fault was counted
 calm_outside : (old new : Meaning) (status : Status) → IsOutside status → (status ≡ ReadFault → Rose old.read_faults new.read_faults) → (status ≡ WriteFault → Rose old.write_faults new.write_faults)
@@ -157,6 +261,7 @@ calm_outside old new NotYet outside read write calm = absurd outside
 -- what a command needs is the cause of its being done
 done_of : (form : Form) (files : List File) → IsGivenAll form files → FormCaused form files Done
 done_of (Checking file) files given = given
+done_of (Exporting export) files given = given
 done_of (Planning plan) files given = given
 done_of (Cutting cut) files given = given
 

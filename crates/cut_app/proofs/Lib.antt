@@ -6,3 +6,4 @@ mod PlanCauseLemmas
 mod CauseLemmas
 mod CheckLemmas
 mod SayingLemmas
+mod ExportLemmas

@@ -38,7 +38,7 @@ pub said_since : (old mid new : Meaning) (came : List ℕ) → mid.said ≡ old.
 said_since old mid new came same said = said ∙ ap (λ told. with_text told came) same
 
 -- a text that was not said to its end
-pub stops_saying : (old mid new : Meaning) (form : Form) (text : List ℕ) (fault : DeskFault) → mid.said ≡ old.said → Says mid new text (Err fault) → ToldFiles old (λ files. IsTextOf form files new.outputs text) → StopsAt form old new (writing_status fault)
+pub stops_saying : (old mid new : Meaning) (form : Form) (text : List ℕ) (fault : DeskFault) → mid.said ≡ old.said → Says mid new text (Err fault) → ToldFiles old (λ files. IsTextOf form files old.outputs new.outputs text) → StopsAt form old new (writing_status fault)
 stops_saying old mid new form text Failed same said is = (
   said.0,
   said_since old mid new said.0 same (ap {A = Meaning} (λ m. m.said) said.3),

@@ -1,5 +1,5 @@
 -- When each status comes, over inputs that are told (own).
-use Rattle.std.specs.Prelude.{◌≡◌, ⊤, ℕ, List, [], ◌∷◌, Option, Some, None, Ok, Err, ◌⊎◌, All}
+use Rattle.std.specs.Prelude.{◌≡◌, ⊤, ℕ, true, false, List, [], ◌∷◌, Option, Some, None, Ok, Err, ◌⊎◌, All}
 use Rattle.vid_desk.specs.Meaning.{File}
 use Rattle.src_index.specs.declared.fault.Fault.{Fault}
 use Rattle.src_index.specs.declared.fault.Fault.TheVariants.{InPacket, InPage, InLink}
@@ -15,7 +15,8 @@ use Rattle.cut_report.specs.declared.status.SourceWhat.TheVariants.{Packet, Page
 use Rattle.cut_report.specs.declared.status.Status.{Status}
 use Rattle.cut_report.specs.declared.status.Status.TheVariants.{Done, Usage, NoFile, BadSource, BadList, Range, ReadFault, WriteFault, NoMem, TooLong, SameName, Changed, InPointNotKey, NotYet}
 use Rattle.cut_app.specs.Forms.{Form}
-use Rattle.cut_app.specs.Forms.Form.{Checking, Cutting, Planning}
+use Rattle.cut_app.specs.Forms.Form.{Checking, Cutting, Exporting, Planning}
+use Rattle.cut_app.specs.Exports.{Export, is_same}
 use Rattle.cut_app.specs.Found.{IsFound}
 use Rattle.cut_app.specs.Plans.{HasRuns, IsRead, Plan, plan_over}
 
@@ -67,6 +68,23 @@ CheckCaused file files (Range line) = ⊥
 CheckCaused file files InPointNotKey = ⊥
 CheckCaused file files NotYet = ⊥
 
+-- the cause of each status of an export: the names are looked at before anything is looked for
+abbrev pub ExportCaused : Export → List File → Status → Type 0
+ExportCaused export files Done = (is_same export ≡ false) × IsSound files export.file
+ExportCaused export files SameName = is_same export ≡ true
+ExportCaused export files (NoFile input) = (is_same export ≡ false) × IsMissing files (export.file ∷ []) input
+ExportCaused export files (TooLong input size) = (is_same export ≡ false) × IsTooLong files (source_input export.file ∷ []) input size
+ExportCaused export files (BadSource source what) = (is_same export ≡ false) × IsBad files (export.file ∷ []) source what
+ExportCaused export files ReadFault = ⊤
+ExportCaused export files WriteFault = ⊤
+ExportCaused export files NoMem = ⊤
+ExportCaused export files Usage = ⊥
+ExportCaused export files Changed = ⊥
+ExportCaused export files (BadList line why) = ⊥
+ExportCaused export files (Range line) = ⊥
+ExportCaused export files InPointNotKey = ⊥
+ExportCaused export files NotYet = ⊥
+
 -- the cause of each status of a plan: the source is judged before the list is read
 abbrev pub PlanCaused : Plan → List File → Status → Type 0
 PlanCaused plan files Done = (runs : List Run) × HasRuns files plan runs
@@ -87,6 +105,7 @@ PlanCaused plan files NotYet = ⊥
 -- the cause of each status of a command
 abbrev pub FormCaused : Form → List File → Status → Type 0
 FormCaused (Checking file) files status = CheckCaused file files status
+FormCaused (Exporting export) files status = ExportCaused export files status
 FormCaused (Planning plan) files status = PlanCaused plan files status
 FormCaused (Cutting cut) files status = Caused cut files status
 

@@ -1,5 +1,6 @@
 pub mod Found
 pub mod Plans
+pub mod Exports
 pub mod Forms
 pub mod Views
 pub mod Texts

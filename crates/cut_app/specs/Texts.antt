@@ -13,7 +13,8 @@ use Rattle.cut_report.specs.declared.status.Status.TheVariants.{Done, Usage, NoF
 use Rattle.cut_app.specs.Found.{IsFound}
 use Rattle.cut_app.specs.Plans.{IsPlanText}
 use Rattle.cut_app.specs.Forms.{Form}
-use Rattle.cut_app.specs.Forms.Form.{Checking, Cutting, Planning}
+use Rattle.cut_app.specs.Forms.Form.{Checking, Cutting, Exporting, Planning}
+use Rattle.cut_app.specs.Exports.{IsExportText}
 
 -- how many of these packets of a track are key frames
 abbrev pub key_count : List (List ℕ) → ℕ
@@ -34,11 +35,13 @@ pub record IsCheckText (files : List File) (file text : List ℕ) : Type 0 where
   pub found : IsFound files file (Ok packets)
   pub lines : IsTrackText found.bytes packets text
 
--- the text of a command that was done, by its inputs and by the outputs that it left, where these are told; a cut says nothing
-abbrev pub IsTextOf : Form → List File → Option (List File) → List ℕ → Type 0
-IsTextOf (Checking file) files outputs text = IsCheckText files file text
-IsTextOf (Planning plan) files outputs text = IsPlanText files plan text
-IsTextOf (Cutting cut) files outputs text = text ≡ []
+-- the text of a command that was done, by its inputs, and by the outputs before it and after it, where these are told; a cut
+-- says nothing
+abbrev pub IsTextOf : Form → List File → Option (List File) → Option (List File) → List ℕ → Type 0
+IsTextOf (Checking file) files before after text = IsCheckText files file text
+IsTextOf (Exporting export) files before after text = IsExportText files export before after text
+IsTextOf (Planning plan) files before after text = IsPlanText files plan text
+IsTextOf (Cutting cut) files before after text = text ≡ []
 
 -- this text was said
 abbrev pub HasSaid : Meaning → Meaning → List ℕ → Type 0
@@ -50,7 +53,7 @@ SaysLine old new line = HasSaid old new line ⊎ ((came : List ℕ) × (rest : L
 
 -- this is a first part of the text of the command, where it was done and left these outputs
 abbrev pub IsFirstPart : Meaning → Option (List File) → Form → List ℕ → Type 0
-IsFirstPart m outputs form first = (first ≡ []) ⊎ ToldFiles m (λ files. (rest : List ℕ) × IsTextOf form files outputs (first ++ rest))
+IsFirstPart m outputs form first = (first ≡ []) ⊎ ToldFiles m (λ files. (rest : List ℕ) × IsTextOf form files m.outputs outputs (first ++ rest))
 
 -- a command was refused: it said nothing, but where writing failed a first part of its text
 abbrev pub StopsAt : Form → Meaning → Meaning → Status → Type 0
@@ -80,7 +83,7 @@ pub record BreaksOff (old new : Meaning) (form : Form) (line : List ℕ) : Type 
 
 -- what was said, by the status: the text of a command that was done, or else the line of the status
 abbrev pub SaysOn : Form → Meaning → Meaning → Status → Type 0
-SaysOn form old new Done = ToldFiles old (λ files. (text : List ℕ) × IsTextOf form files new.outputs text × HasSaid old new text)
+SaysOn form old new Done = ToldFiles old (λ files. (text : List ℕ) × IsTextOf form files old.outputs new.outputs text × HasSaid old new text)
 SaysOn form old new WriteFault = BreaksOff old new form (fault_text WriteFault)
 SaysOn form old new NoMem = BreaksOff old new form (fault_text NoMem)
 SaysOn form old new Usage = SaysLine old new (fault_text Usage)

@@ -1,11 +1,13 @@
 // The command `check FILE`: it judges a file and says what it holds (own).
-ghost use Rattle.std.specs.Prelude.{◌≡◌, ◌≢◌, ◌≤◌, ◌∷◌, [], List, ℕ, Ok, IfOk, IfErr, OnOk, IsErrOf};
-ghost use Rattle.vid_desk.specs.Meaning.{ToldFiles, Rose};
+ghost use Rattle.std.specs.Prelude.{◌≡◌, ◌≢◌, ◌≤◌, ◌<◌, ◌∷◌, [], List, ℕ, Ok, Some, IfOk, IfErr, OnOk, IsErrOf};
+ghost use Rattle.vid_desk.specs.Meaning.{ToldFiles, Rose, bytes_at};
+ghost use Rattle.cut_desk.specs.Inputs.{contents};
 ghost use Rattle.cut_desk.specs.Outputs.{Looks, Seeks};
 ghost use Rattle.cut_desk.specs.Statuses.{status_in};
 ghost use Rattle.cut_app.specs.Forms.Form.{Checking};
 ghost use Rattle.cut_app.specs.Texts.{HasSaid, IsCheckText, StopsAt};
 ghost use Rattle.src_index.specs.Index.{keys_of};
+ghost use Rattle.src_index.specs.Loading.{IsLoadedFrom};
 ghost use Rattle.cut_app.specs.Index.{marked, HasIndex, IsIndexText};
 ghost use Rattle.cut_app.specs.Steps.{IsReading};
 ghost use Rattle.cut_app.specs.Causes.{CheckCaused};
@@ -52,9 +54,11 @@ fn check_text(alloc: Global, source: &Source) -> Result<Vec<u8>, NoMem>
     Ok(text)
 }
 
-// Looks for the file and judges it.
-fn judge_file<D: Desk>(alloc: Global, desk: &mut D, file: &str) -> Result<Source, Status>
+/// Looks for the file and judges it.
+pub(crate) fn judge_file<D: Desk>(alloc: Global, desk: &mut D, file: &str) -> Result<Source, Status>
     ensures found { IfOk result (λ source. ToldFiles (D.sees desk.old) (λ files. HasIndex files file.now source)) }
+    ensures held { IfOk result (λ source. (source.input < (D.sees desk.new).found) × IsLoadedFrom (D.sees desk.new) source.input source) }
+    ensures place { IfOk result (λ source. ToldFiles (D.sees desk.old) (λ files. contents files file.now ≡ Some (bytes_at files source.input))) }
     ensures caused { IfErr result (λ status. ToldFiles (D.sees desk.old) (λ files. CheckCaused file.now files status)) }
     ensures names { Seeks (D.sees desk.old).sought (D.sees desk.new).sought (file.now ∷ []) }
     ensures kept { Looks (D.sees desk.old) (D.sees desk.new) }

@@ -2,14 +2,15 @@
 ghost use Rattle.std.specs.Prelude.{◌≡◌, ◌≤◌, ◌⊎◌, List, ℕ, Some, None, map, IfErr, OnOk, IsErrOf};
 ghost use Rattle.vid_desk.specs.Meaning.{ToldFiles, Rose};
 ghost use Rattle.cut_desk.specs.Outputs.{Seeks};
-ghost use Rattle.cut_desk.specs.Statuses.{LeavesOutputsAt, status_in};
+ghost use Rattle.cut_desk.specs.Statuses.{status_in};
 ghost use Rattle.cut_app.specs.Forms.{form_of, inputs_in, inputs_of};
 ghost use Rattle.cut_app.specs.Views.{form_view};
 ghost use Rattle.cut_app.specs.Texts.{HasSaid, IsTextOf, StopsAt};
 ghost use Rattle.cut_app.specs.Causes.{CausedBy, FormCaused, IsOnly};
-ghost use Rattle.cut_app.specs.Commands.{Completes, CreatesWhenGiven, MakesOnly, SaysBy, Tells, WrittenBy};
+ghost use Rattle.cut_app.specs.Commands.{Completes, CreatesWhenGiven, LeavesBy, MakesOnly, SaysBy, Tells, WrittenBy};
 
 use crate::checking::check;
+use crate::exporting::export_file;
 use crate::planning::say_plan;
 use crate::words::{Command, command_of};
 use cut_report::{Status, fault_line};
@@ -36,10 +37,10 @@ fn run<D: Desk>(alloc: Global, desk: &mut D, command: Command) -> Result<(), Sta
     ensures written { OnOk result (ToldFiles (D.sees desk.old) (λ files. WrittenBy (D.sees desk.old) (D.sees desk.new) (Some (form_view command.entry)) files)) }
     ensures outputs { MakesOnly (D.sees desk.old) (D.sees desk.new) (Some (form_view command.entry)) }
     ensures created { ToldFiles (D.sees desk.old) (λ files. CreatesWhenGiven (D.sees desk.old) (D.sees desk.new) (Some (form_view command.entry)) files) }
-    ensures before { LeavesOutputsAt (status_in result) (D.sees desk.old) (D.sees desk.new) }
+    ensures before { LeavesBy (Some (form_view command.entry)) (status_in result) (D.sees desk.old) (D.sees desk.new) }
     ensures names { Seeks (D.sees desk.old).sought (D.sees desk.new).sought (inputs_in (form_view command.entry)) }
     ensures inputs { (D.sees desk.new).inputs ≡ (D.sees desk.old).inputs }
-    ensures said { OnOk result (ToldFiles (D.sees desk.old) (λ files. (text : List ℕ) × IsTextOf (form_view command.entry) files (D.sees desk.new).outputs text × HasSaid (D.sees desk.old) (D.sees desk.new) text)) }
+    ensures said { OnOk result (ToldFiles (D.sees desk.old) (λ files. (text : List ℕ) × IsTextOf (form_view command.entry) files (D.sees desk.old).outputs (D.sees desk.new).outputs text × HasSaid (D.sees desk.old) (D.sees desk.new) text)) }
     ensures stops { IfErr result (StopsAt (form_view command.entry) (D.sees desk.old) (D.sees desk.new)) }
     ensures count { (D.sees desk.old).write_faults ≤ (D.sees desk.new).write_faults }
     ensures read { IsErrOf result Status.ReadFault → Rose (D.sees desk.old).read_faults (D.sees desk.new).read_faults }
@@ -49,6 +50,7 @@ fn run<D: Desk>(alloc: Global, desk: &mut D, command: Command) -> Result<(), Sta
 {
     match command {
         Command::Check { file } => check(alloc, desk, file),
+        Command::Export { file, out } => export_file(alloc, desk, file, out),
         Command::Plan { list, source } => say_plan(alloc, desk, list, source),
         Command::Cut { list, out, source } => cut(alloc, desk, list, out, source),
     }
@@ -56,9 +58,14 @@ fn run<D: Desk>(alloc: Global, desk: &mut D, command: Command) -> Result<(), Sta
 
 /// Does what the words say, over the desk's inputs, outputs and text, and tells how it ended.
 ///
-/// `check FILE` judges a file. The order of refusals is: the words; the file that is not there;
+/// `check FILE` judges a file and parses its frames whole. The order of refusals is: the words; the file that is not there;
 /// a file of more than 2^40 bytes; the first check that fails. It says a line for the file's link, and whether the file is
 /// seekable.
+///
+/// `export FILE OUT` writes all frames of a file as YUV4MPEG2 to the new output OUT, and says how many there are. The order of
+/// refusals is: the words; names that are the same; the file that is not there; a file of more than 2^40 bytes; the first check
+/// that fails. No output is created before all of these were looked at. Packets are read again then, so that `ReadFault` and
+/// `Changed` may leave an output with what came to it.
 ///
 /// `plan LIST SRC` says the runs of the list over the source, a line each, and how many frames are copied and coded. The order
 /// of refusals is: the words; inputs that are not there, in the order of the words; a list of more than 2^20 bytes, a source of
@@ -78,14 +85,15 @@ pub fn oggcut<D: Desk>(alloc: Global, words: &[&str], desk: &mut D) -> Status
     // Over inputs that are told, each status has its cause, and no other status has one, so that each cause has its status.
     ensures caused { ToldFiles (D.sees desk.old) (λ files. CausedBy (form_of (map (λ word. word.now) words.now)) files result) }
     ensures only { ToldFiles (D.sees desk.old) (λ files. IsOnly (form_of (map (λ word. word.now) words.now)) files result) }
-    // The output of a cut that was done holds the pages of the source's headers and of the frames of the slice.
+    // The output of an export that was done holds the pictures of all frames of the file, and that of a cut the pages of the
+    // source's headers and of the frames of the slice.
     ensures written { result ≡ Status.Done → ToldFiles (D.sees desk.old) (λ files. WrittenBy (D.sees desk.old) (D.sees desk.new) (form_of (map (λ word. word.now) words.now)) files) }
     // Where all is given and no count of faults rises, the command is done.
     ensures complete { ToldFiles (D.sees desk.old) (λ files. Completes (D.sees desk.old) (D.sees desk.new) (form_of (map (λ word. word.now) words.now)) files result) }
     ensures outputs { MakesOnly (D.sees desk.old) (D.sees desk.new) (form_of (map (λ word. word.now) words.now)) }
     // Whatever the status, nothing is asked of the outputs before all that the command needs was found to be given.
     ensures created { ToldFiles (D.sees desk.old) (λ files. CreatesWhenGiven (D.sees desk.old) (D.sees desk.new) (form_of (map (λ word. word.now) words.now)) files) }
-    ensures before { LeavesOutputsAt result (D.sees desk.old) (D.sees desk.new) }
+    ensures before { LeavesBy (form_of (map (λ word. word.now) words.now)) result (D.sees desk.old) (D.sees desk.new) }
     ensures names { Seeks (D.sees desk.old).sought (D.sees desk.new).sought (inputs_of (form_of (map (λ word. word.now) words.now))) }
     ensures inputs { (D.sees desk.new).inputs ≡ (D.sees desk.old).inputs }
     // The text of a command that was done, or else the line of its status.

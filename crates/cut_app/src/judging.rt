@@ -1,7 +1,7 @@
 // The source of a command, judged (own).
 ghost use Rattle.std.specs.Prelude.{◌≡◌, ◌≤◌, ◌<◌, length, IfOk, IfErr, IsErrOf};
 ghost use Rattle.vid_desk.specs.Meaning.{Rose, Told, with_reads};
-ghost use Rattle.src_index.specs.Loading.{IsIndexed, longest};
+ghost use Rattle.src_index.specs.Loading.{IsIndexed, IsLoadedFrom, longest};
 ghost use Rattle.cut_app.specs.Index.{refusal_status};
 ghost use Rattle.cut_app.specs.Steps.{IsReading, RefusesSource};
 
@@ -55,6 +55,7 @@ pub(crate) fn judge<D: Desk>(
 ) -> Result<Source, Status>
     requires id { id < (D.sees desk.old).found }
     ensures judged { IfOk result (λ source. Told (D.sees desk.old) id (λ bytes. (length bytes ≤ longest) × IsIndexed bytes source)) }
+    ensures loaded { IfOk result (λ source. IsLoadedFrom (D.sees desk.old) id source) }
     ensures refused { IfErr result (λ status. Told (D.sees desk.old) id (λ bytes. RefusesSource input bytes status)) }
     ensures kept { with_reads (D.sees desk.old) (D.sees desk.new) }
     ensures count { (D.sees desk.old).read_faults ≤ (D.sees desk.new).read_faults }

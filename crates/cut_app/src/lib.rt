@@ -3,6 +3,7 @@
 
 mod checking;
 mod command;
+mod exporting;
 mod judging;
 mod listing;
 mod planning;
@@ -12,6 +13,8 @@ mod words;
 pub use command::oggcut;
 pub use cut_report::Status;
 
+#[cfg(test)]
+mod export_tests;
 #[cfg(test)]
 mod plan_tests;
 #[cfg(test)]

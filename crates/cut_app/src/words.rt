@@ -1,7 +1,7 @@
 // The words of a command line (own).
 ghost use Rattle.std.specs.Prelude.{◌≡◌, map};
 ghost use Rattle.std.specs.Option.{option_map};
-ghost use Rattle.cut_app.specs.Forms.{form_of};
+ghost use Rattle.cut_app.specs.Forms.{form_of, form_of_two};
 ghost use Rattle.cut_app.specs.Views.{form_view};
 
 /// A command and the names in its words.
@@ -15,10 +15,34 @@ pub(crate) enum Command<'a> {
         out: &'a str,
         source: &'a str,
     },
+    Export {
+        file: &'a str,
+        out: &'a str,
+    },
     Plan {
         list: &'a str,
         source: &'a str,
     },
+}
+
+// The command of three words that have a form.
+#[tactic(auto, unfolding(crate::specs::Forms::form_of_two))]
+fn command_of_two<'a>(command: &str, one: &'a str, other: &'a str) -> Option<Command<'a>>
+    ensures { option_map form_view result ≡ form_of_two command.now one.now other.now }
+{
+    if command == "plan" {
+        return Some(Command::Plan {
+            list: one,
+            source: other,
+        });
+    }
+    if command == "export" {
+        return Some(Command::Export {
+            file: one,
+            out: other,
+        });
+    }
+    None
 }
 
 /// The command of words that have a form.
@@ -31,11 +55,8 @@ pub(crate) fn command_of<'a>(words: &[&'a str]) -> Option<Command<'a>>
         }
         return None;
     }
-    if let [command, list, source] = words {
-        if *command == "plan" {
-            return Some(Command::Plan { list, source });
-        }
-        return None;
+    if let [command, one, other] = words {
+        return command_of_two(command, one, other);
     }
     let [command, list, out, source] = words else {
         return None;

@@ -3,7 +3,7 @@ use Rattle.vid_desk.specs.Meaning.{Meaning}
 use Rattle.cut_report.specs.declared.status.Status.TheVariants.{Done}
 use Rattle.cut_app.specs.Forms.{form_of}
 use Rattle.cut_app.specs.Views.{form_view}
-use Rattle.cut_app.proofs.CauseLemmas.{completes_told, created_told, only, only_told}
+use Rattle.cut_app.proofs.CauseLemmas.{before_done, before_told, completes_told, created_told, only, only_told}
 use Rattle.cut_app.proofs.SayingLemmas.{says_told}
 use Rattle.cut_app.proofs.command.oggcut.Goals as goal
 
@@ -32,3 +32,13 @@ pub returns-in-Err-clause-created : goal.returns-in-Err-clause-created
 returns-in-Err-clause-created g c =
     let form : form_of (map (λ word. word.now) c.args.words.now) ≡ Some (form_view c.in-Some.command) = sym c.in-Some.ensures in
     rw form (λ files told. created_told (g.D.Desk.sees c.args.desk.now) (g.D.Desk.sees c.run.new.desk) (g.D.Desk.sees c.tell-in-Err.new.desk) (form_view c.in-Some.command) files c.tell-in-Err.ensures.kept (c.in-Err.ensures.created files told))
+
+pub returns-in-Ok-clause-before : goal.returns-in-Ok-clause-before
+returns-in-Ok-clause-before g c =
+    let form : form_of (map (λ word. word.now) c.args.words.now) ≡ Some (form_view c.in-Some.command) = sym c.in-Some.ensures in
+    rw form (before_done (g.D.Desk.sees c.args.desk.now) (g.D.Desk.sees c.run.new.desk) (form_view c.in-Some.command))
+
+pub returns-in-Err-clause-before : goal.returns-in-Err-clause-before
+returns-in-Err-clause-before g c =
+    let form : form_of (map (λ word. word.now) c.args.words.now) ≡ Some (form_view c.in-Some.command) = sym c.in-Some.ensures in
+    rw form (before_told (g.D.Desk.sees c.args.desk.now) (g.D.Desk.sees c.run.new.desk) (g.D.Desk.sees c.tell-in-Err.new.desk) (form_view c.in-Some.command) c.in-Err.status c.tell-in-Err.result c.tell-in-Err.ensures.kept c.tell-in-Err.ensures.told c.in-Err.ensures.before)

@@ -5,3 +5,6 @@ returns-in-Check-clause-stops g c = rw c.in-Check.is c.check.ensures.stops
 
 pub returns-in-Plan-clause-stops : goal.returns-in-Plan-clause-stops
 returns-in-Plan-clause-stops g c = rw c.in-Plan.is c.say_plan.ensures.stops
+
+pub returns-in-Export-clause-stops : goal.returns-in-Export-clause-stops
+returns-in-Export-clause-stops g c = rw c.in-Export.is c.export_file.ensures.stops
