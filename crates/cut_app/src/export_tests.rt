@@ -27,7 +27,7 @@ fn film(rt: &(impl Abort + AllocGlobal), frames: &[&[u8]]) -> Vec<u8> {
             flags,
             number,
             granule,
-            &[frame.len() as u8],
+            &[frame.len().min(254) as u8],
             frame,
         );
         number = number.saturating_add(1);
