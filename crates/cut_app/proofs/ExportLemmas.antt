@@ -139,10 +139,13 @@ most_since old mid new name looks most =
     let outputs : mid.outputs ≡ old.outputs = ap {A = Meaning} (λ m. m.outputs) looks in
     let named : mid.named ≡ old.named = ap {A = Meaning} (λ m. m.named) looks in
     elim most [
-      | inl none ↦ inl (record { outputs = none.outputs ∙ outputs; asked_for = elim none.asked_for [
-        | inl same ↦ inl (same ∙ named)
-        | inr more ↦ inr (more ∙ ap (λ told. with_last told name) named)
-      ] })
+      | inl none ↦ inl (record {
+        outputs = none.outputs ∙ outputs;
+        asked_for = elim none.asked_for [
+          | inl same ↦ inl (same ∙ named)
+          | inr more ↦ inr (more ∙ ap (λ told. with_last told name) named)
+        ];
+      })
       | inr made ↦ inr (made.0, makes_since old mid new name made.0 looks made.1)
     ]
 
@@ -154,10 +157,13 @@ says_left mid new text (Err NoRoom) said = (ap {A = Meaning} (λ m. m.outputs) s
 
 pub most_left : (old mid new : Meaning) (name : List ℕ) → LeavesOutputs mid new → MakesAtMost old mid name → MakesAtMost old new name
 most_left old mid new name left most = elim most [
-  | inl none ↦ inl (record { outputs = left.0 ∙ none.outputs; asked_for = elim none.asked_for [
-    | inl same ↦ inl (left.1 ∙ same)
-    | inr more ↦ inr (left.1 ∙ more)
-  ] })
+  | inl none ↦ inl (record {
+    outputs = left.0 ∙ none.outputs;
+    asked_for = elim none.asked_for [
+      | inl same ↦ inl (left.1 ∙ same)
+      | inr more ↦ inr (left.1 ∙ more)
+    ];
+  })
   | inr made ↦ inr (made.0, record { outputs = left.0 ∙ made.1.outputs; asked_for = left.1 ∙ made.1.asked_for })
 ]
 

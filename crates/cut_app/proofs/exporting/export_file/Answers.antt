@@ -92,8 +92,7 @@ returns-in-Ok-say-clause-said g c = λ files told.
     let is : Written (g.D.Desk.sees c.args.desk.now) (g.D.Desk.sees c.export.new.desk) files export c.in-Ok.source =
     written_by _ (g.D.Desk.sees c.judge_file.new.desk) _ files export c.in-Ok.source c.in-Ok.ensures.kept told (c.in-Ok.ensures.found files told) (c.in-Ok.ensures.place files told) c.in-Ok.ensures.held.1 c.in-Ok-export.ensures.written in
     let same : (g.D.Desk.sees c.export.new.desk).said ≡ (g.D.Desk.sees c.args.desk.now).said = ap {A = Meaning} (λ m. m.said) c.in-Ok-export.ensures.kept ∙ ap {A = Meaning} (λ m. m.said) c.in-Ok.ensures.kept in
-    let line : c.deref.result.now ≡ exported_text (frame_count c.in-Ok.source) = c.deref.ensures.value ∙ c.in-Ok-count_text.ensures ∙ ap exported_text c.frames.ensures.value in
-    (
+    let line : c.deref.result.now ≡ exported_text (frame_count c.in-Ok.source) = c.deref.ensures.value ∙ c.in-Ok-count_text.ensures ∙ ap exported_text c.frames.ensures.value in (
       c.deref.result.now,
       text_of (g.D.Desk.sees c.args.desk.now) (g.D.Desk.sees c.export.new.desk) (g.D.Desk.sees c.say.new.self) files export c.in-Ok.source c.deref.result.now (says_left (g.D.Desk.sees c.export.new.desk) (g.D.Desk.sees c.say.new.self) c.deref.result.now c.say.result c.say.ensures.said) is line,
       said_since (g.D.Desk.sees c.args.desk.now) (g.D.Desk.sees c.export.new.desk) (g.D.Desk.sees c.say.new.self) c.deref.result.now same (ap {A = Meaning} {B = Option (List ℕ)} (λ m. m.said) c.in-Ok-say.ensures.said),

@@ -25,8 +25,8 @@ returns-in-Ok-append-clause-added g c =
       frame_text (samples_of c.show.new.self.picture),
       grows_behind _ _ _ c.args.id _ (grows_reads (g.D.Desk.sees c.args.desk.now) (g.D.Desk.sees c.read.new.desk) c.args.id c.in-Ok.ensures.kept c.in-Ok.ensures.count) c.in-Ok-append.ensures.added,
       λ files told packets judged text far.
-      let bytes = bytes_at files index.input in
-      let of = index_by bytes packets index (c.requires.made.1 files told) judged in
-      film_more c.args.self.now c.read.new.self c.show.new.self c.append.new.self packets c.args.n text c.in-Ok.ensures.stays c.in-Ok.ensures.state c.in-Ok-show.ensures.shows c.in-Ok-show.ensures.stays c.in-Ok-append.ensures.stays c.in-Ok-append.ensures.state
-      (rw (count_is bytes packets index of) c.requires.frame) (c.in-Ok.ensures.packet files told packets judged) far,
+          let bytes = bytes_at files index.input in
+          let of = index_by bytes packets index (c.requires.made.1 files told) judged in
+          film_more c.args.self.now c.read.new.self c.show.new.self c.append.new.self packets c.args.n text c.in-Ok.ensures.stays c.in-Ok.ensures.state c.in-Ok-show.ensures.shows c.in-Ok-show.ensures.stays c.in-Ok-append.ensures.stays c.in-Ok-append.ensures.state
+          (rw (count_is bytes packets index of) c.requires.frame) (c.in-Ok.ensures.packet files told packets judged) far,
     )
