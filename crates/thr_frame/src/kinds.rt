@@ -34,8 +34,9 @@ fn put_kind(kinds: &mut [u8], places: &[u32], kind: u8)
     }
 }
 
-/// Makes the reference kind of each block in coded order from the modes of the macro blocks.
-pub(crate) fn fill_kinds(geom: &Geom, modes: &[u8], kinds: &mut [u8])
+/// Makes the reference kind of each block in coded order from the modes of the macro blocks: 0 is nothing, 1 the previous
+/// frame, 2 the golden frame. Each entry is written.
+pub fn fill_kinds(geom: &Geom, modes: &[u8], kinds: &mut [u8])
     requires modes { length modes.now ≡ length (macro_blocks geom.now) }
     requires kinds { length kinds.old ≡ length (order_of geom.now) }
     ensures { kinds.new ≡ kinds_of geom.now modes.now }

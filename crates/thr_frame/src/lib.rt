@@ -27,6 +27,7 @@ pub use coded::Coded;
 pub use decoder::Decoder;
 pub use frame::rebuild_frame;
 pub use kind::Kind;
+pub use kinds::fill_kinds;
 pub use parsing::{parse_frame, parse_into};
 pub use work::Work;
 
