@@ -12,7 +12,7 @@ use Rattle.cut_slice.proofs.CauseLemmas.{one_status as one_of_cut}
 use Rattle.cut_app.proofs.FindingLemmas.{one_finding}
 use Rattle.cut_app.proofs.PlanCauseLemmas.{one_of_plan}
 use Rattle.cut_report.specs.declared.status.Status.{Status}
-use Rattle.cut_report.specs.declared.status.Status.TheVariants.{Done, Usage, NoFile, BadSource, BadList, Range, ReadFault, WriteFault, NoMem, TooLong, SameName, Changed, InPointNotKey, NotYet}
+use Rattle.cut_report.specs.declared.status.Status.TheVariants.{Done, Usage, NoFile, BadSource, BadList, Range, ReadFault, WriteFault, NoMem, BadY4m, TooLong, SameName, Changed, InPointNotKey, NotYet}
 use Rattle.cut_app.specs.Forms.{Form}
 use Rattle.cut_app.specs.Forms.Form.{Checking, Cutting, Exporting, Planning}
 use Rattle.cut_app.specs.Exports.{Export, LeavesUntil, is_same}
@@ -58,6 +58,7 @@ end_of file files SameName cause = absurd cause
 end_of file files (BadList line why) cause = absurd cause
 end_of file files (Range line) cause = absurd cause
 end_of file files InPointNotKey cause = absurd cause
+end_of file files (BadY4m frame why) cause = absurd cause
 end_of file files NotYet cause = absurd cause
 end_of file files ReadFault cause = inl tt
 end_of file files WriteFault cause = inl tt
@@ -111,6 +112,7 @@ parts_of export files Changed cause = absurd cause
 parts_of export files (BadList line why) cause = absurd cause
 parts_of export files (Range line) cause = absurd cause
 parts_of export files InPointNotKey cause = absurd cause
+parts_of export files (BadY4m frame why) cause = absurd cause
 parts_of export files NotYet cause = absurd cause
 
 same_and_apart : (export : Export) → is_same export ≡ true → is_same export ≡ false → ⊥
@@ -196,6 +198,7 @@ left_at old mid new (NoFile input) kept left = left_told old mid new kept left
 left_at old mid new (BadSource source what) kept left = left_told old mid new kept left
 left_at old mid new (TooLong input size) kept left = left_told old mid new kept left
 left_at old mid new InPointNotKey kept left = left_told old mid new kept left
+left_at old mid new (BadY4m frame why) kept left = left_told old mid new kept left
 left_at old mid new NotYet kept left = left_told old mid new kept left
 left_at old mid new ReadFault kept left = left_told old mid new kept left
 
@@ -213,6 +216,7 @@ left_until old mid new (NoFile input) kept left = left_told old mid new kept lef
 left_until old mid new (BadSource source what) kept left = left_told old mid new kept left
 left_until old mid new (TooLong input size) kept left = left_told old mid new kept left
 left_until old mid new InPointNotKey kept left = left_told old mid new kept left
+left_until old mid new (BadY4m frame why) kept left = left_told old mid new kept left
 left_until old mid new NotYet kept left = left_told old mid new kept left
 
 left_by : (old mid new : Meaning) (form : Form) (status : Status) → new ≡ record mid { said = new.said; write_faults = new.write_faults } → LeavesBy (Some form) status old mid → LeavesBy (Some form) status old new
@@ -256,6 +260,7 @@ calm_outside old new (NoFile input) outside read write calm = absurd outside
 calm_outside old new (BadSource source what) outside read write calm = absurd outside
 calm_outside old new (TooLong input size) outside read write calm = absurd outside
 calm_outside old new InPointNotKey outside read write calm = absurd outside
+calm_outside old new (BadY4m frame why) outside read write calm = absurd outside
 calm_outside old new NotYet outside read write calm = absurd outside
 
 -- what a command needs is the cause of its being done

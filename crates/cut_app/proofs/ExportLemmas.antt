@@ -13,7 +13,7 @@ use Rattle.cut_desk.specs.Statuses.{writing_status}
 use Rattle.cut_desk.proofs.InputLemmas.{makes_since}
 use Rattle.cut_report.specs.Lines.{exported_text}
 use Rattle.cut_report.specs.declared.status.Status.{Status}
-use Rattle.cut_report.specs.declared.status.Status.TheVariants.{Done, Usage, NoFile, BadSource, BadList, Range, ReadFault, WriteFault, NoMem, TooLong, SameName, Changed, InPointNotKey, NotYet}
+use Rattle.cut_report.specs.declared.status.Status.TheVariants.{Done, Usage, NoFile, BadSource, BadList, Range, ReadFault, WriteFault, NoMem, BadY4m, TooLong, SameName, Changed, InPointNotKey, NotYet}
 use Rattle.cut_export.specs.Exported.{IsExport}
 use Rattle.cut_export.specs.Films.{ToldTrack}
 use Rattle.cut_export.specs.Statuses.{IsExporting}
@@ -42,6 +42,7 @@ export_refused export files (TooLong input size) apart cause = (apart, cause)
 export_refused export files SameName apart cause = absurd cause
 export_refused export files Changed apart cause = absurd cause
 export_refused export files InPointNotKey apart cause = absurd cause
+export_refused export files (BadY4m frame why) apart cause = absurd cause
 export_refused export files NotYet apart cause = absurd cause
 
 -- outputs that were left are left at each status
@@ -59,6 +60,7 @@ until_left old new (TooLong input size) left = left
 until_left old new SameName left = left
 until_left old new Changed left = tt
 until_left old new InPointNotKey left = left
+until_left old new (BadY4m frame why) left = left
 until_left old new NotYet left = left
 
 -- the statuses that come while frames are written say nothing of the outputs
@@ -76,6 +78,7 @@ until_exporting old new (TooLong input size) only = absurd only
 until_exporting old new SameName only = absurd only
 until_exporting old new Changed only = tt
 until_exporting old new InPointNotKey only = absurd only
+until_exporting old new (BadY4m frame why) only = absurd only
 until_exporting old new NotYet only = absurd only
 
 -- they have no cause in the inputs, but for another file, which over inputs that are told never comes
@@ -93,6 +96,7 @@ export_broken export files (TooLong input size) only never = absurd only
 export_broken export files SameName only never = absurd only
 export_broken export files Changed only never = absurd (never (λ i. Err Changed))
 export_broken export files InPointNotKey only never = absurd only
+export_broken export files (BadY4m frame why) only never = absurd only
 export_broken export files NotYet only never = absurd only
 
 -- nothing was said before them
@@ -110,6 +114,7 @@ exporting_stops form old new (TooLong input size) only same = absurd only
 exporting_stops form old new SameName only same = absurd only
 exporting_stops form old new Changed only same = same
 exporting_stops form old new InPointNotKey only same = absurd only
+exporting_stops form old new (BadY4m frame why) only same = absurd only
 exporting_stops form old new NotYet only same = absurd only
 
 -- nor before those that come while the file is looked for and judged
@@ -127,6 +132,7 @@ reading_stops form old new (TooLong input size) only same = same
 reading_stops form old new SameName only same = absurd only
 reading_stops form old new Changed only same = absurd only
 reading_stops form old new InPointNotKey only same = absurd only
+reading_stops form old new (BadY4m frame why) only same = absurd only
 reading_stops form old new NotYet only same = absurd only
 
 -- looking at inputs leaves the outputs

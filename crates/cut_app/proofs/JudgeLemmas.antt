@@ -9,7 +9,7 @@ use Rattle.src_index.specs.Loading.{Answers, longest}
 use Rattle.cut_desk.specs.Inputs.{contents, longest_list, IsThere, IsWithin}
 use Rattle.cut_desk.proofs.InputLemmas.{there_of}
 use Rattle.cut_report.specs.declared.status.Status.{Status}
-use Rattle.cut_report.specs.declared.status.Status.TheVariants.{Done, Usage, NoFile, BadSource, BadList, Range, ReadFault, WriteFault, NoMem, TooLong, SameName, Changed, InPointNotKey, NotYet}
+use Rattle.cut_report.specs.declared.status.Status.TheVariants.{Done, Usage, NoFile, BadSource, BadList, Range, ReadFault, WriteFault, NoMem, BadY4m, TooLong, SameName, Changed, InPointNotKey, NotYet}
 use Rattle.cut_report.specs.declared.status.SourceWhat.{SourceWhat}
 use Rattle.cut_app.specs.Causes.{list_input, source_input, CheckCaused, IsBad, PlanCaused}
 use Rattle.cut_app.specs.Index.{refusal_status}
@@ -57,6 +57,7 @@ check_refused files file bytes SameName there refuses = absurd refuses
 check_refused files file bytes Changed there refuses = absurd refuses
 check_refused files file bytes WriteFault there refuses = absurd refuses
 check_refused files file bytes InPointNotKey there refuses = absurd refuses
+check_refused files file bytes (BadY4m frame why) there refuses = absurd refuses
 check_refused files file bytes NotYet there refuses = absurd refuses
 
 -- both inputs of a plan are there
@@ -81,4 +82,5 @@ plan_refused files plan text bytes SameName list short there refuses = absurd re
 plan_refused files plan text bytes Changed list short there refuses = absurd refuses
 plan_refused files plan text bytes WriteFault list short there refuses = absurd refuses
 plan_refused files plan text bytes InPointNotKey list short there refuses = absurd refuses
+plan_refused files plan text bytes (BadY4m frame why) list short there refuses = absurd refuses
 plan_refused files plan text bytes NotYet list short there refuses = absurd refuses

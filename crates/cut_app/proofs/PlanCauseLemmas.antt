@@ -10,7 +10,7 @@ use Rattle.cut_desk.specs.Inputs.{contents, longest_list, IsMissing, IsThere, Is
 use Rattle.cut_desk.specs.Statuses.{IsOutside}
 use Rattle.cut_desk.proofs.InputLemmas.{none_missing, none_too_long, one_missing, one_too_long, there_of}
 use Rattle.cut_report.specs.declared.status.Status.{Status}
-use Rattle.cut_report.specs.declared.status.Status.TheVariants.{Done, Usage, NoFile, BadSource, BadList, Range, ReadFault, WriteFault, NoMem, TooLong, SameName, Changed, InPointNotKey, NotYet}
+use Rattle.cut_report.specs.declared.status.Status.TheVariants.{Done, Usage, NoFile, BadSource, BadList, Range, ReadFault, WriteFault, NoMem, BadY4m, TooLong, SameName, Changed, InPointNotKey, NotYet}
 use Rattle.cut_app.specs.Found.{IsFound}
 use Rattle.cut_app.specs.Causes.{list_input, one_source, source_input, PlanCaused, what_of}
 use Rattle.cut_app.specs.Plans.{IsRead, Plan, plan_over}
@@ -72,6 +72,7 @@ end_of plan files Usage cause = absurd cause
 end_of plan files SameName cause = absurd cause
 end_of plan files Changed cause = absurd cause
 end_of plan files InPointNotKey cause = absurd cause
+end_of plan files (BadY4m frame why) cause = absurd cause
 end_of plan files NotYet cause = absurd cause
 end_of plan files ReadFault cause = inl tt
 end_of plan files WriteFault cause = inl tt

@@ -13,7 +13,7 @@ use Rattle.cut_plan.specs.Runs.{plan_of}
 use Rattle.cut_desk.specs.Inputs.{contents, longest_list, IsTooLong}
 use Rattle.cut_desk.proofs.InputLemmas.{contents_is}
 use Rattle.cut_report.specs.declared.status.Status.{Status}
-use Rattle.cut_report.specs.declared.status.Status.TheVariants.{Done, Usage, NoFile, BadSource, BadList, Range, ReadFault, WriteFault, NoMem, TooLong, SameName, Changed, InPointNotKey, NotYet}
+use Rattle.cut_report.specs.declared.status.Status.TheVariants.{Done, Usage, NoFile, BadSource, BadList, Range, ReadFault, WriteFault, NoMem, BadY4m, TooLong, SameName, Changed, InPointNotKey, NotYet}
 use Rattle.cut_app.specs.Causes.{list_input, source_input, PlanCaused}
 use Rattle.cut_app.specs.Plans.{IsRead, Plan, plan_over}
 use Rattle.cut_app.specs.Steps.{RefusesInputs, RefusesList, RefusesRange}
@@ -80,6 +80,7 @@ inputs_refused files plan SameName refuses = absurd refuses
 inputs_refused files plan Changed refuses = absurd refuses
 inputs_refused files plan WriteFault refuses = absurd refuses
 inputs_refused files plan InPointNotKey refuses = absurd refuses
+inputs_refused files plan (BadY4m frame why) refuses = absurd refuses
 inputs_refused files plan NotYet refuses = absurd refuses
 
 -- so is one of the list
@@ -97,6 +98,7 @@ list_refused files plan text index SameName gives refuses = absurd refuses
 list_refused files plan text index Changed gives refuses = absurd refuses
 list_refused files plan text index WriteFault gives refuses = absurd refuses
 list_refused files plan text index InPointNotKey gives refuses = absurd refuses
+list_refused files plan text index (BadY4m frame why) gives refuses = absurd refuses
 list_refused files plan text index NotYet gives refuses = absurd refuses
 
 -- and one of its range
@@ -114,4 +116,5 @@ range_refused files plan text slices index SameName gives listed refuses = absur
 range_refused files plan text slices index Changed gives listed refuses = absurd refuses
 range_refused files plan text slices index WriteFault gives listed refuses = absurd refuses
 range_refused files plan text slices index InPointNotKey gives listed refuses = absurd refuses
+range_refused files plan text slices index (BadY4m frame why) gives listed refuses = absurd refuses
 range_refused files plan text slices index NotYet gives listed refuses = absurd refuses

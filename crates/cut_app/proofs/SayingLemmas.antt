@@ -8,7 +8,7 @@ use Rattle.vid_desk.specs.declared.fault.DeskFault.TheVariants.{Failed, NoMem as
 use Rattle.cut_desk.specs.Statuses.{writing_status}
 use Rattle.cut_report.specs.Lines.{fault_text}
 use Rattle.cut_report.specs.declared.status.Status.{Status}
-use Rattle.cut_report.specs.declared.status.Status.TheVariants.{Done, Usage, NoFile, BadSource, BadList, Range, ReadFault, WriteFault, NoMem, TooLong, SameName, Changed, InPointNotKey, NotYet}
+use Rattle.cut_report.specs.declared.status.Status.TheVariants.{Done, Usage, NoFile, BadSource, BadList, Range, ReadFault, WriteFault, NoMem, BadY4m, TooLong, SameName, Changed, InPointNotKey, NotYet}
 use Rattle.cut_app.specs.Forms.{Form}
 use Rattle.cut_app.specs.Texts.{BreaksOff, HasSaid, IsFirstPart, IsTextOf, SaysLine, SaysOn, StopsAt}
 use Rattle.cut_app.specs.Commands.{Tells}
@@ -61,6 +61,7 @@ said_first old new form ReadFault stops = ([], said_nothing old new stops, inl r
 said_first old new form NoMem stops = ([], said_nothing old new stops, inl refl)
 said_first old new form (TooLong input size) stops = ([], said_nothing old new stops, inl refl)
 said_first old new form InPointNotKey stops = ([], said_nothing old new stops, inl refl)
+said_first old new form (BadY4m frame why) stops = ([], said_nothing old new stops, inl refl)
 said_first old new form NotYet stops = ([], said_nothing old new stops, inl refl)
 
 -- a command that broke off and then said a line, or a first part of it
@@ -93,6 +94,7 @@ says_status old mid new form (BadSource source what) stops not_done later output
 says_status old mid new form ReadFault stops not_done later outputs says = line_since old mid new (fault_text ReadFault) stops later says
 says_status old mid new form (TooLong input size) stops not_done later outputs says = line_since old mid new (fault_text (TooLong input size)) stops later says
 says_status old mid new form InPointNotKey stops not_done later outputs says = line_since old mid new (fault_text InPointNotKey) stops later says
+says_status old mid new form (BadY4m frame why) stops not_done later outputs says = line_since old mid new (fault_text (BadY4m frame why)) stops later says
 says_status old mid new form NotYet stops not_done later outputs says = line_since old mid new (fault_text NotYet) stops later says
 
 -- a refusal that was told

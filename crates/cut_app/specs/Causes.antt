@@ -13,7 +13,7 @@ use Rattle.cut_slice.specs.Cause.{Caused}
 use Rattle.cut_report.specs.declared.status.SourceWhat.{SourceWhat}
 use Rattle.cut_report.specs.declared.status.SourceWhat.TheVariants.{Packet, Page, Link}
 use Rattle.cut_report.specs.declared.status.Status.{Status}
-use Rattle.cut_report.specs.declared.status.Status.TheVariants.{Done, Usage, NoFile, BadSource, BadList, Range, ReadFault, WriteFault, NoMem, TooLong, SameName, Changed, InPointNotKey, NotYet}
+use Rattle.cut_report.specs.declared.status.Status.TheVariants.{Done, Usage, NoFile, BadSource, BadList, Range, ReadFault, WriteFault, NoMem, BadY4m, TooLong, SameName, Changed, InPointNotKey, NotYet}
 use Rattle.cut_app.specs.Forms.{Form}
 use Rattle.cut_app.specs.Forms.Form.{Checking, Cutting, Exporting, Planning}
 use Rattle.cut_app.specs.Exports.{Export, is_same}
@@ -66,6 +66,7 @@ CheckCaused file files SameName = ⊥
 CheckCaused file files (BadList line why) = ⊥
 CheckCaused file files (Range line) = ⊥
 CheckCaused file files InPointNotKey = ⊥
+CheckCaused file files (BadY4m frame why) = ⊥
 CheckCaused file files NotYet = ⊥
 
 -- the cause of each status of an export: the names are looked at before anything is looked for
@@ -83,6 +84,7 @@ ExportCaused export files Changed = ⊥
 ExportCaused export files (BadList line why) = ⊥
 ExportCaused export files (Range line) = ⊥
 ExportCaused export files InPointNotKey = ⊥
+ExportCaused export files (BadY4m frame why) = ⊥
 ExportCaused export files NotYet = ⊥
 
 -- the cause of each status of a plan: the source is judged before the list is read
@@ -100,6 +102,7 @@ PlanCaused plan files Usage = ⊥
 PlanCaused plan files SameName = ⊥
 PlanCaused plan files Changed = ⊥
 PlanCaused plan files InPointNotKey = ⊥
+PlanCaused plan files (BadY4m frame why) = ⊥
 PlanCaused plan files NotYet = ⊥
 
 -- the cause of each status of a command

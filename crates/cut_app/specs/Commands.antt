@@ -5,7 +5,7 @@ use Rattle.cut_desk.specs.Outputs.{IsCalm, LeavesOutputs, MakesAtMost}
 use Rattle.cut_desk.specs.Statuses.{LeavesOutputsAt}
 use Rattle.cut_slice.specs.Cause.{IsGivenAll as CanCut, Written}
 use Rattle.cut_report.specs.declared.status.Status.{Status}
-use Rattle.cut_report.specs.declared.status.Status.TheVariants.{Done, Usage, NoFile, BadSource, BadList, Range, ReadFault, WriteFault, NoMem, TooLong, SameName, Changed, InPointNotKey, NotYet}
+use Rattle.cut_report.specs.declared.status.Status.TheVariants.{Done, Usage, NoFile, BadSource, BadList, Range, ReadFault, WriteFault, NoMem, BadY4m, TooLong, SameName, Changed, InPointNotKey, NotYet}
 use Rattle.cut_report.specs.Lines.{fault_text}
 use Rattle.cut_app.specs.Forms.{Form}
 use Rattle.cut_app.specs.Forms.Form.{Checking, Cutting, Exporting, Planning}
@@ -76,6 +76,7 @@ SaysBy None old new WriteFault = HasSaid old new []
 SaysBy None old new NoMem = HasSaid old new []
 SaysBy None old new (TooLong input bytes) = HasSaid old new []
 SaysBy None old new InPointNotKey = HasSaid old new []
+SaysBy None old new (BadY4m frame why) = HasSaid old new []
 SaysBy None old new NotYet = HasSaid old new []
 SaysBy (Some form) old new status = SaysOn form old new status
 

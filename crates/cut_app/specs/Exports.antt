@@ -5,7 +5,7 @@ use Rattle.vid_desk.specs.Meaning.{File, Meaning, with_last}
 use Rattle.src_index.specs.Track.{frames_of}
 use Rattle.cut_desk.specs.Outputs.{LeavesOutputs, Makes}
 use Rattle.cut_report.specs.declared.status.Status.{Status}
-use Rattle.cut_report.specs.declared.status.Status.TheVariants.{Done, Usage, NoFile, BadSource, BadList, Range, ReadFault, WriteFault, NoMem, TooLong, SameName, Changed, InPointNotKey, NotYet}
+use Rattle.cut_report.specs.declared.status.Status.TheVariants.{Done, Usage, NoFile, BadSource, BadList, Range, ReadFault, WriteFault, NoMem, BadY4m, TooLong, SameName, Changed, InPointNotKey, NotYet}
 use Rattle.cut_report.specs.Lines.{exported_text}
 use Rattle.cut_export.specs.Exported.{IsExport}
 use Rattle.cut_app.specs.Found.{IsFound}
@@ -53,4 +53,5 @@ LeavesUntil (BadList line why) old new = LeavesOutputs old new
 LeavesUntil (Range line) old new = LeavesOutputs old new
 LeavesUntil (TooLong input bytes) old new = LeavesOutputs old new
 LeavesUntil InPointNotKey old new = LeavesOutputs old new
+LeavesUntil (BadY4m frame why) old new = LeavesOutputs old new
 LeavesUntil NotYet old new = LeavesOutputs old new

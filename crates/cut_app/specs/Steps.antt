@@ -9,7 +9,7 @@ use Rattle.cut_plan.specs.Runs.{plan_of}
 use Rattle.src_index.specs.Index.{Index, frame_count, keys_of}
 use Rattle.cut_desk.specs.Inputs.{IsMissing, IsTooLong}
 use Rattle.cut_report.specs.declared.status.Status.{Status}
-use Rattle.cut_report.specs.declared.status.Status.TheVariants.{Done, Usage, NoFile, BadSource, BadList, Range, ReadFault, WriteFault, NoMem, TooLong, SameName, Changed, InPointNotKey, NotYet}
+use Rattle.cut_report.specs.declared.status.Status.TheVariants.{Done, Usage, NoFile, BadSource, BadList, Range, ReadFault, WriteFault, NoMem, BadY4m, TooLong, SameName, Changed, InPointNotKey, NotYet}
 use Rattle.cut_app.specs.Causes.{list_input, source_input, what_of, one_source}
 use Rattle.cut_app.specs.Plans.{Plan}
 
@@ -28,6 +28,7 @@ IsReading SameName = ⊥
 IsReading Changed = ⊥
 IsReading WriteFault = ⊥
 IsReading InPointNotKey = ⊥
+IsReading (BadY4m frame why) = ⊥
 IsReading NotYet = ⊥
 
 -- why the inputs of a plan are not taken
@@ -45,6 +46,7 @@ RefusesInputs files plan SameName = ⊥
 RefusesInputs files plan Changed = ⊥
 RefusesInputs files plan WriteFault = ⊥
 RefusesInputs files plan InPointNotKey = ⊥
+RefusesInputs files plan (BadY4m frame why) = ⊥
 RefusesInputs files plan NotYet = ⊥
 
 -- why these bytes of an input, counted in the order of the words, give no source
@@ -62,6 +64,7 @@ RefusesSource number bytes SameName = ⊥
 RefusesSource number bytes Changed = ⊥
 RefusesSource number bytes WriteFault = ⊥
 RefusesSource number bytes InPointNotKey = ⊥
+RefusesSource number bytes (BadY4m frame why) = ⊥
 RefusesSource number bytes NotYet = ⊥
 
 -- why a text gives no list
@@ -79,6 +82,7 @@ RefusesList text SameName = ⊥
 RefusesList text Changed = ⊥
 RefusesList text WriteFault = ⊥
 RefusesList text InPointNotKey = ⊥
+RefusesList text (BadY4m frame why) = ⊥
 RefusesList text NotYet = ⊥
 
 -- why slices have no runs over the source of this index
@@ -96,4 +100,5 @@ RefusesRange index slices SameName = ⊥
 RefusesRange index slices Changed = ⊥
 RefusesRange index slices WriteFault = ⊥
 RefusesRange index slices InPointNotKey = ⊥
+RefusesRange index slices (BadY4m frame why) = ⊥
 RefusesRange index slices NotYet = ⊥

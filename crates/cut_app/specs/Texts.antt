@@ -9,7 +9,7 @@ use Rattle.src_index.specs.Track.{frames_of, packet_at}
 use Rattle.src_index.specs.Seekable.{IsSeekable}
 use Rattle.cut_report.specs.Lines.{fault_text, link_text, seekable_text}
 use Rattle.cut_report.specs.declared.status.Status.{Status}
-use Rattle.cut_report.specs.declared.status.Status.TheVariants.{Done, Usage, NoFile, BadSource, BadList, Range, ReadFault, WriteFault, NoMem, TooLong, SameName, Changed, InPointNotKey, NotYet}
+use Rattle.cut_report.specs.declared.status.Status.TheVariants.{Done, Usage, NoFile, BadSource, BadList, Range, ReadFault, WriteFault, NoMem, BadY4m, TooLong, SameName, Changed, InPointNotKey, NotYet}
 use Rattle.cut_app.specs.Found.{IsFound}
 use Rattle.cut_app.specs.Plans.{IsPlanText}
 use Rattle.cut_app.specs.Forms.{Form}
@@ -70,6 +70,7 @@ StopsAt form old new ReadFault = new.said ≡ old.said
 StopsAt form old new NoMem = new.said ≡ old.said
 StopsAt form old new (TooLong input bytes) = new.said ≡ old.said
 StopsAt form old new InPointNotKey = new.said ≡ old.said
+StopsAt form old new (BadY4m frame why) = new.said ≡ old.said
 StopsAt form old new NotYet = new.said ≡ old.said
 
 -- a command broke off: it said a first part of its text, and then a first part of a line
@@ -96,4 +97,5 @@ SaysOn form old new (BadSource source what) = SaysLine old new (fault_text (BadS
 SaysOn form old new ReadFault = SaysLine old new (fault_text ReadFault)
 SaysOn form old new (TooLong input bytes) = SaysLine old new (fault_text (TooLong input bytes))
 SaysOn form old new InPointNotKey = SaysLine old new (fault_text InPointNotKey)
+SaysOn form old new (BadY4m frame why) = SaysLine old new (fault_text (BadY4m frame why))
 SaysOn form old new NotYet = SaysLine old new (fault_text NotYet)

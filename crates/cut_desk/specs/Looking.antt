@@ -2,7 +2,7 @@
 use Rattle.std.specs.Prelude.{⊤, ℕ, List, [], ◌∷◌}
 use Rattle.vid_desk.specs.Meaning.{File}
 use Rattle.cut_report.specs.declared.status.Status.{Status}
-use Rattle.cut_report.specs.declared.status.Status.TheVariants.{Done, Usage, NoFile, BadSource, BadList, Range, ReadFault, WriteFault, NoMem, TooLong, SameName, Changed, InPointNotKey, NotYet}
+use Rattle.cut_report.specs.declared.status.Status.TheVariants.{Done, Usage, NoFile, BadSource, BadList, Range, ReadFault, WriteFault, NoMem, BadY4m, TooLong, SameName, Changed, InPointNotKey, NotYet}
 use Rattle.cut_desk.specs.Inputs.{IsMissing}
 
 -- of the statuses that come while inputs are looked for, NoFile says which is the first that is not there
@@ -20,6 +20,7 @@ Missing files list source (BadSource at what) = ⊥
 Missing files list source WriteFault = ⊥
 Missing files list source (TooLong input bytes) = ⊥
 Missing files list source InPointNotKey = ⊥
+Missing files list source (BadY4m frame why) = ⊥
 Missing files list source NotYet = ⊥
 
 -- statuses that come while inputs are looked for
@@ -37,4 +38,5 @@ IsLooking WriteFault = ⊥
 IsLooking NoMem = ⊤
 IsLooking (TooLong input bytes) = ⊥
 IsLooking InPointNotKey = ⊥
+IsLooking (BadY4m frame why) = ⊥
 IsLooking NotYet = ⊥

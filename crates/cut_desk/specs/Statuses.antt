@@ -4,7 +4,7 @@ use Rattle.vid_desk.specs.Meaning.{Meaning}
 use Rattle.vid_desk.specs.declared.fault.DeskFault.{DeskFault}
 use Rattle.vid_desk.specs.declared.fault.DeskFault.TheVariants.{Failed, NoMem as NoRoom}
 use Rattle.cut_report.specs.declared.status.Status.{Status}
-use Rattle.cut_report.specs.declared.status.Status.TheVariants.{Done, Usage, NoFile, BadSource, BadList, Range, ReadFault, WriteFault, NoMem, TooLong, SameName, Changed, InPointNotKey, NotYet}
+use Rattle.cut_report.specs.declared.status.Status.TheVariants.{Done, Usage, NoFile, BadSource, BadList, Range, ReadFault, WriteFault, NoMem, BadY4m, TooLong, SameName, Changed, InPointNotKey, NotYet}
 use Rattle.cut_desk.specs.Outputs.{LeavesOutputs}
 
 -- the status of a fault of a call that reads
@@ -37,6 +37,7 @@ IsOutside (NoFile input) = ⊥
 IsOutside (BadSource source what) = ⊥
 IsOutside (TooLong input bytes) = ⊥
 IsOutside InPointNotKey = ⊥
+IsOutside (BadY4m frame why) = ⊥
 IsOutside NotYet = ⊥
 
 -- what a status says of the outputs: those that come before the step that creates one leave them. Inputs are read before
@@ -51,6 +52,7 @@ LeavesOutputsAt (NoFile input) old new = LeavesOutputs old new
 LeavesOutputsAt (BadSource source what) old new = LeavesOutputs old new
 LeavesOutputsAt (TooLong input bytes) old new = LeavesOutputs old new
 LeavesOutputsAt InPointNotKey old new = LeavesOutputs old new
+LeavesOutputsAt (BadY4m frame why) old new = LeavesOutputs old new
 LeavesOutputsAt NotYet old new = LeavesOutputs old new
 LeavesOutputsAt ReadFault old new = LeavesOutputs old new
 LeavesOutputsAt Done old new = ⊤

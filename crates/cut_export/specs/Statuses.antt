@@ -3,7 +3,7 @@ use Rattle.std.specs.Prelude.{⊤}
 use Rattle.src_index.specs.declared.fault.SourceFault.{SourceFault}
 use Rattle.src_index.specs.declared.fault.SourceFault.TheVariants.{Bad, Page, Link, TooLong as LongFile, ReadFault as ReadFailed, Changed as IsAnother, NoMem as NoMemory}
 use Rattle.cut_report.specs.declared.status.Status.{Status}
-use Rattle.cut_report.specs.declared.status.Status.TheVariants.{Done, Usage, NoFile, BadSource, BadList, Range, ReadFault, WriteFault, NoMem, TooLong, SameName, Changed, InPointNotKey, NotYet}
+use Rattle.cut_report.specs.declared.status.Status.TheVariants.{Done, Usage, NoFile, BadSource, BadList, Range, ReadFault, WriteFault, NoMem, BadY4m, TooLong, SameName, Changed, InPointNotKey, NotYet}
 
 -- the status of a packet that was not read again: the faults of judging come no more
 abbrev pub reread_status : SourceFault → Status
@@ -30,6 +30,7 @@ IsRereading (BadList line why) = ⊥
 IsRereading (Range line) = ⊥
 IsRereading (TooLong input bytes) = ⊥
 IsRereading InPointNotKey = ⊥
+IsRereading (BadY4m frame why) = ⊥
 IsRereading NotYet = ⊥
 
 -- while bytes are written
@@ -47,6 +48,7 @@ IsWriting (BadList line why) = ⊥
 IsWriting (Range line) = ⊥
 IsWriting (TooLong input bytes) = ⊥
 IsWriting InPointNotKey = ⊥
+IsWriting (BadY4m frame why) = ⊥
 IsWriting NotYet = ⊥
 
 -- while frames are read, decoded and written in turn
@@ -64,4 +66,5 @@ IsExporting (BadList line why) = ⊥
 IsExporting (Range line) = ⊥
 IsExporting (TooLong input bytes) = ⊥
 IsExporting InPointNotKey = ⊥
+IsExporting (BadY4m frame why) = ⊥
 IsExporting NotYet = ⊥

@@ -4,12 +4,13 @@ use Rattle.vid_base.specs.Faults.{name_of as packet_fault}
 use Rattle.ogg_page.specs.Faults.{name_of as page_fault}
 use Rattle.ogg_link.specs.Faults.{name_of as link_fault}
 use Rattle.cut_list.specs.Faults.{name_of as why_name}
+use Rattle.y4m_io.specs.Faults.{name_of as departure_name}
 use Rattle.thr_ident.specs.declared.ident.Ident.{Ident}
 use Rattle.cut_report.specs.Parts.{line_feed}
 use Rattle.cut_report.specs.declared.status.SourceWhat.{SourceWhat}
 use Rattle.cut_report.specs.declared.status.SourceWhat.TheVariants.{Packet, Page, Link}
 use Rattle.cut_report.specs.declared.status.Status.{Status}
-use Rattle.cut_report.specs.declared.status.Status.TheVariants.{Done, Usage, NoFile, BadSource, BadList, Range, ReadFault, WriteFault, NoMem, TooLong, SameName, Changed, InPointNotKey, NotYet}
+use Rattle.cut_report.specs.declared.status.Status.TheVariants.{Done, Usage, NoFile, BadSource, BadList, Range, ReadFault, WriteFault, NoMem, BadY4m, TooLong, SameName, Changed, InPointNotKey, NotYet}
 
 -- the number with which the program ends
 abbrev pub number_of : Status → ℕ
@@ -22,6 +23,7 @@ number_of (Range line) = 6
 number_of ReadFault = 8
 number_of WriteFault = 9
 number_of NoMem = 10
+number_of (BadY4m frame why) = 11
 number_of (TooLong input bytes) = 14
 number_of SameName = 15
 number_of Changed = 16
@@ -49,6 +51,7 @@ fault_text (Range line) = codes "fault 6 line " ++ decimal line ++ line_feed
 fault_text ReadFault = codes "fault 8 read" ++ line_feed
 fault_text WriteFault = codes "fault 9 write" ++ line_feed
 fault_text NoMem = codes "fault 10 memory" ++ line_feed
+fault_text (BadY4m frame why) = codes "fault 11 frame " ++ decimal frame ++ codes " " ++ departure_name why ++ line_feed
 fault_text (TooLong input bytes) = codes "fault 14 input " ++ decimal input ++ codes " bytes " ++ decimal bytes ++ line_feed
 fault_text SameName = codes "fault 15 name" ++ line_feed
 fault_text Changed = codes "fault 16 changed" ++ line_feed

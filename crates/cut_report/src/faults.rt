@@ -72,6 +72,15 @@ pub fn fault_line(status: &Status) -> ArrayVec<u8, 128>
         Status::ReadFault => line(&[Text("fault 8 read")]),
         Status::WriteFault => line(&[Text("fault 9 write")]),
         Status::NoMem => line(&[Text("fault 10 memory")]),
+        Status::BadY4m {
+            frame,
+            why: departure,
+        } => line(&[
+            Text("fault 11 frame "),
+            Number(frame.into()),
+            Text(" "),
+            Text(departure.name()),
+        ]),
         Status::TooLong { input, bytes } => line(&[
             Text("fault 14 input "),
             Number(input.into()),

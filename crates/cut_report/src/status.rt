@@ -6,6 +6,7 @@ use cut_list::Why;
 use ogg_link::LinkFault;
 use ogg_page::PageFault;
 use vid_base::PacketFault;
+use y4m_io::Y4mWhy;
 
 /// The first fault of a source, and where it stands. Links count from 1; packets of a link's track from 0, its three
 /// headers first; bytes from the source's first.
@@ -51,6 +52,9 @@ pub enum Status {
     WriteFault,
     /// No memory was found.
     NoMem,
+    /// The input departs from the grammar of YUV4MPEG2, first there and for that why; `frame` counts the whole frames before
+    /// it.
+    BadY4m { frame: u32, why: Y4mWhy },
     /// That input, counted from 1 in the order of the words, is the first that has more bytes than its limit; `bytes` is
     /// its size.
     TooLong { input: u32, bytes: u64 },
@@ -79,6 +83,7 @@ impl Status {
             Status::ReadFault => 8,
             Status::WriteFault => 9,
             Status::NoMem => 10,
+            Status::BadY4m { .. } => 11,
             Status::TooLong { .. } => 14,
             Status::SameName => 15,
             Status::Changed => 16,

@@ -4,6 +4,7 @@ use ogg_link::LinkFault;
 use ogg_page::PageFault;
 use thr_ident::Ident;
 use vid_base::PacketFault;
+use y4m_io::Y4mWhy;
 
 // Each status but that of a bad source, with the smallest and the largest numbers; the number with which the program
 // ends, and the line.
@@ -154,6 +155,26 @@ const BAD_SOURCES: [(u32, SourceWhat, &str); 6] = [
     ),
 ];
 
+// Departures of a stream of pictures: the whole frames before it, the why, and the line.
+const DEPARTURES: [(u32, Y4mWhy, &str); 12] = [
+    (0, Y4mWhy::Magic, "fault 11 frame 0 Magic\n"),
+    (0, Y4mWhy::Field, "fault 11 frame 0 Field\n"),
+    (0, Y4mWhy::Size, "fault 11 frame 0 Size\n"),
+    (0, Y4mWhy::Rate, "fault 11 frame 0 Rate\n"),
+    (0, Y4mWhy::Aspect, "fault 11 frame 0 Aspect\n"),
+    (0, Y4mWhy::Colour, "fault 11 frame 0 Colour\n"),
+    (0, Y4mWhy::Interlace, "fault 11 frame 0 Interlace\n"),
+    (1, Y4mWhy::Line, "fault 11 frame 1 Line\n"),
+    (2, Y4mWhy::Frame, "fault 11 frame 2 Frame\n"),
+    (16_777_215, Y4mWhy::Short, "fault 11 frame 16777215 Short\n"),
+    (0, Y4mWhy::Empty, "fault 11 frame 0 Empty\n"),
+    (
+        u32::MAX,
+        Y4mWhy::TooMany,
+        "fault 11 frame 4294967295 TooMany\n",
+    ),
+];
+
 // Frames of 16 by 16 samples in 4:2:0, 25 a second.
 const SMALLEST: Ident = Ident {
     vrev: 1,
@@ -218,6 +239,15 @@ const WIDEST: Ident = Ident {
 fn each_status_has_its_number_and_its_line(rt: HostRuntime) {
     for (status, number, line) in STATUSES {
         assert_eq!(rt; status.number(), number, "{line}");
+        assert!(rt; fault_line(&status).as_slice() == line.as_bytes(), "{line}");
+    }
+}
+
+#[test]
+fn a_departure_is_told_by_its_why_and_the_frames_before_it(rt: HostRuntime) {
+    for (frame, why, line) in DEPARTURES {
+        let status = Status::BadY4m { frame, why };
+        assert_eq!(rt; status.number(), 11, "{line}");
         assert!(rt; fault_line(&status).as_slice() == line.as_bytes(), "{line}");
     }
 }

@@ -12,7 +12,7 @@ use Rattle.cut_slice.specs.Words.{Cut, clashes}
 use Rattle.cut_slice.specs.Cause.{Caused, IsGiven, IsReady, NotCovered, in_point}
 use Rattle.cut_slice.proofs.CuttingLemmas.{not_covered, given_not_missing, one_cut}
 use Rattle.cut_report.specs.declared.status.Status.{Status}
-use Rattle.cut_report.specs.declared.status.Status.TheVariants.{Done, Usage, NoFile, BadSource, BadList, Range, ReadFault, WriteFault, NoMem, TooLong, SameName, Changed, InPointNotKey, NotYet}
+use Rattle.cut_report.specs.declared.status.Status.TheVariants.{Done, Usage, NoFile, BadSource, BadList, Range, ReadFault, WriteFault, NoMem, BadY4m, TooLong, SameName, Changed, InPointNotKey, NotYet}
 
 -- how a cut ends that inputs bring to its end: names that clash, an input that is not there, inputs that are not covered, and
 -- inputs that are ready, whose slice begins at a key frame or not
@@ -46,6 +46,7 @@ end_of cut files NotYet cause = elim cause [
 end_of cut files (NoFile input) cause = inr (Lacking input, cause, refl)
 end_of cut files Usage cause = absurd cause
 end_of cut files Changed cause = absurd cause
+end_of cut files (BadY4m frame why) cause = absurd cause
 end_of cut files SameName cause = absurd cause
 end_of cut files (BadList line why) cause = absurd cause
 end_of cut files (Range line) cause = absurd cause

@@ -15,7 +15,7 @@ use Rattle.cut_desk.specs.Outputs.{LeavesOutputs, Looks}
 use Rattle.cut_desk.proofs.InputLemmas.{not_absent}
 use Rattle.cut_slice.specs.Cause.{in_point, CanBeCut, Caused, CreatesWhenGiven, GivesBoth, IsGiven, IsReady, NotCovered, RefusesBoth, RefusesSource}
 use Rattle.cut_report.specs.declared.status.Status.{Status}
-use Rattle.cut_report.specs.declared.status.Status.TheVariants.{Done, Usage, NoFile, BadSource, BadList, Range, ReadFault, WriteFault, NoMem, TooLong, SameName, Changed, InPointNotKey, NotYet}
+use Rattle.cut_report.specs.declared.status.Status.TheVariants.{Done, Usage, NoFile, BadSource, BadList, Range, ReadFault, WriteFault, NoMem, BadY4m, TooLong, SameName, Changed, InPointNotKey, NotYet}
 
 no_bytes : (bytes : List ℕ) → length bytes ≡ 0 → bytes ≡ []
 no_bytes [] h = refl
@@ -78,6 +78,7 @@ pub caused_by_source : (cut : Cut) (files : List File) (slice : Slice) (bytes : 
 caused_by_source cut files slice bytes Done apart both refused = absurd refused
 caused_by_source cut files slice bytes Usage apart both refused = absurd refused
 caused_by_source cut files slice bytes Changed apart both refused = absurd refused
+caused_by_source cut files slice bytes (BadY4m frame why) apart both refused = absurd refused
 caused_by_source cut files slice bytes SameName apart both refused = absurd refused
 caused_by_source cut files slice bytes (BadList line why) apart both refused = absurd refused
 caused_by_source cut files slice bytes (Range line) apart both refused = absurd refused
@@ -104,6 +105,7 @@ pub caused_by_reading : (cut : Cut) (files : List File) (status : Status) → cl
 caused_by_reading cut files Done apart refused = absurd refused
 caused_by_reading cut files Usage apart refused = absurd refused
 caused_by_reading cut files Changed apart refused = absurd refused
+caused_by_reading cut files (BadY4m frame why) apart refused = absurd refused
 caused_by_reading cut files SameName apart refused = absurd refused
 caused_by_reading cut files (BadList line why) apart refused = absurd refused
 caused_by_reading cut files (Range line) apart refused = absurd refused

@@ -10,7 +10,7 @@ use Rattle.cut_desk.specs.Outputs.{LeavesOutputs, Makes}
 use Rattle.cut_slice.specs.SliceList.{Slice, slice_of}
 use Rattle.cut_slice.specs.Plain.{Packets, IsPlain, NotPlain, stream_of}
 use Rattle.cut_report.specs.declared.status.Status.{Status}
-use Rattle.cut_report.specs.declared.status.Status.TheVariants.{Done, Usage, NoFile, BadSource, BadList, Range, ReadFault, WriteFault, NoMem, TooLong, SameName, Changed, InPointNotKey, NotYet}
+use Rattle.cut_report.specs.declared.status.Status.TheVariants.{Done, Usage, NoFile, BadSource, BadList, Range, ReadFault, WriteFault, NoMem, BadY4m, TooLong, SameName, Changed, InPointNotKey, NotYet}
 
 -- the names are apart, and both inputs are there
 pub record IsGiven (cut : Cut) (files : List File) (list source : List ℕ) : Type 0 where
@@ -65,6 +65,7 @@ RefusesBoth files list source NoMem = ⊤
 RefusesBoth files list source Done = ⊥
 RefusesBoth files list source Usage = ⊥
 RefusesBoth files list source Changed = ⊥
+RefusesBoth files list source (BadY4m frame why) = ⊥
 RefusesBoth files list source SameName = ⊥
 RefusesBoth files list source (BadList line why) = ⊥
 RefusesBoth files list source (Range line) = ⊥
@@ -78,6 +79,7 @@ abbrev pub IsReading : Status → Type 0
 IsReading Done = ⊥
 IsReading Usage = ⊥
 IsReading Changed = ⊥
+IsReading (BadY4m frame why) = ⊥
 IsReading SameName = ⊥
 IsReading (BadList line why) = ⊥
 IsReading (Range line) = ⊥
@@ -108,6 +110,7 @@ RefusesSource slice bytes NoMem = ⊤
 RefusesSource slice bytes Done = ⊥
 RefusesSource slice bytes Usage = ⊥
 RefusesSource slice bytes Changed = ⊥
+RefusesSource slice bytes (BadY4m frame why) = ⊥
 RefusesSource slice bytes SameName = ⊥
 RefusesSource slice bytes (BadList line why) = ⊥
 RefusesSource slice bytes (Range line) = ⊥
@@ -125,6 +128,7 @@ abbrev pub IsCutting : Status → Type 0
 IsCutting Done = ⊥
 IsCutting Usage = ⊥
 IsCutting Changed = ⊥
+IsCutting (BadY4m frame why) = ⊥
 IsCutting SameName = ⊥
 IsCutting (BadList line why) = ⊥
 IsCutting (Range line) = ⊥
@@ -153,6 +157,7 @@ Caused cut files NotYet = (clashes cut ≡ true) ⊎ ((list : List ℕ) × (sour
 Caused cut files (NoFile input) = (clashes cut ≡ false) × IsMissing files (cut.list ∷ cut.source ∷ []) input
 Caused cut files Usage = ⊥
 Caused cut files Changed = ⊥
+Caused cut files (BadY4m frame why) = ⊥
 Caused cut files SameName = ⊥
 Caused cut files (BadList line why) = ⊥
 Caused cut files (Range line) = ⊥

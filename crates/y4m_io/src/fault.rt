@@ -1,5 +1,6 @@
 // What can be wrong with a YUV4MPEG2 stream (own).
 ghost use Rattle.std.specs.Prelude.{◌≡◌};
+ghost use Rattle.y4m_io.specs.Faults.{name_of};
 ghost use Rattle.y4m_io.specs.declared.fault.Y4mFault.TheVariants.{NoMem as NoMemory, ReadFault as ReadFailed};
 
 use std::alloc::{AllocError, AllocFailed};
@@ -32,6 +33,28 @@ pub enum Y4mWhy {
     Empty,
     /// Something stands behind frame 2^24.
     TooMany,
+}
+
+impl Y4mWhy {
+    /// Its name, as it is printed: that of the variant.
+    pub fn name(self) -> &'static str
+        ensures { result.now ≡ name_of self }
+    {
+        match self {
+            Y4mWhy::Magic => "Magic",
+            Y4mWhy::Field => "Field",
+            Y4mWhy::Size => "Size",
+            Y4mWhy::Rate => "Rate",
+            Y4mWhy::Aspect => "Aspect",
+            Y4mWhy::Colour => "Colour",
+            Y4mWhy::Interlace => "Interlace",
+            Y4mWhy::Line => "Line",
+            Y4mWhy::Frame => "Frame",
+            Y4mWhy::Short => "Short",
+            Y4mWhy::Empty => "Empty",
+            Y4mWhy::TooMany => "TooMany",
+        }
+    }
 }
 
 /// Why a stream was not read: its first departure, with the number of whole frames before it; a read that failed; or want of
