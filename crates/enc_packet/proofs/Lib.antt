@@ -1,2 +1,5 @@
 pub mod HeadLemmas
 pub mod RowLemmas
+pub mod SizeLemmas
+pub mod MotionLemmas
+pub mod PacketLemmas

@@ -32,7 +32,8 @@ fn write_inter(
 {
     write_flags(w, geom, flags)?;
     write_modes(w, geom, flags, head.modes)?;
-    write_vectors(w, geom, flags, head.modes, head.vectors)
+    write_vectors(w, geom, flags, head.modes, head.vectors)?;
+    Ok(())
 }
 
 /// Writes which blocks of a frame are coded, their modes and their vectors; those of an intra frame are known, and nothing is

@@ -47,7 +47,7 @@ fn write_fields(
     requires small { All (All (λ v. unsigned_abs v ≤ 580)) coeffs.now.values.items }
     requires rows { rows.now ≡ full_rows (contents setup.now).forest }
     ensures reads_back { IfOk result (λ w. (counts : List ℕ) × ReadsBack (fields_of (contents setup.now) geom.now) (whole_frame geom.now head.now.intra head.now.qi head.now.modes.now (map offset_of head.now.vectors.now) coeffs.now.values.items counts) [] w) }
-    ensures few { IfOk result (λ w. length w < 2 ^ 33) }
+    ensures few { IfOk result (λ w. length w + 8 ≤ 2 ^ 33) }
 {
     let mut w = BitWriter::new(alloc);
     write_head(&mut w, head.intra, head.qi)?;
@@ -93,5 +93,6 @@ pub fn write_packet(
 {
     apply_dc(geom, flags, kinds, coeffs);
     let w = write_fields(alloc, geom, setup, rows, head, flags, coeffs)?;
-    Ok(w.finish())
+    let packet = w.finish();
+    Ok(packet)
 }

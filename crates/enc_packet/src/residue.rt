@@ -49,5 +49,6 @@ pub(crate) fn write_residue(
 {
     let tokens = tokenise(alloc, geom, flags, coeffs)?;
     let tables = tables_for(rows, &setup.forest, &tokens);
-    write_tokens(w, &tokens, &setup.forest, &tables)
+    write_tokens(w, &tokens, &setup.forest, &tables)?;
+    Ok(())
 }
