@@ -34,7 +34,16 @@ length-end false = omega arith
 pub head_few : (intra : Bool) (qi : ℕ) (old one two three new : List Bool)
     → one ≡ old ++ false ∷ [] → two ≡ one ++ not intra ∷ [] → three ≡ two ++ digits 6 qi → new ≡ three ++ end_code intra
     → length new ≤ length old + 12
-head_few intra qi old one two three new first second third last = omega (arith,
-    ap length first, ap length second, ap length third, ap length last,
-    length-append old (false ∷ []), length-append one (not intra ∷ []), length-append two (digits 6 qi), length-append three (end_code intra),
-    length-digits 6 qi, length-end intra)
+head_few intra qi old one two three new first second third last = omega (
+  arith,
+  ap length first,
+  ap length second,
+  ap length third,
+  ap length last,
+  length-append old (false ∷ []),
+  length-append one (not intra ∷ []),
+  length-append two (digits 6 qi),
+  length-append three (end_code intra),
+  length-digits 6 qi,
+  length-end intra,
+)

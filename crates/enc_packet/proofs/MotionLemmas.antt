@@ -74,7 +74,7 @@ inter_back s flags modes vectors old one two new all f m v = record {
   more = f.more ++ (m.more ++ v.more);
   added = rw (v.added, m.added, f.added) (simp append_assoc);
   reads = λ rest.
-    rw (append_assoc f.more (m.more ++ v.more) rest, f.reads ((m.more ++ v.more) ++ rest), append_assoc m.more v.more rest, any_coded s flags all, m.reads (v.more ++ rest), v.reads rest) refl;
+      rw (append_assoc f.more (m.more ++ v.more) rest, f.reads ((m.more ++ v.more) ++ rest), append_assoc m.more v.more rest, any_coded s flags all, m.reads (v.more ++ rest), v.reads rest) refl;
 }
 
 -- those of an intra frame

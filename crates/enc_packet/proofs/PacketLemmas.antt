@@ -51,7 +51,7 @@ fields_back setup s intra qi flags modes vectors values counts old one two new a
   more = head.more ++ (motion.more ++ residue.more);
   added = rw (residue.added, motion.added, head.added) (simp append_assoc);
   reads = λ rest.
-    rw (append_assoc head.more (motion.more ++ residue.more) rest, head.reads ((motion.more ++ residue.more) ++ rest), append_assoc motion.more residue.more rest, motion.reads (residue.more ++ rest), residue.reads rest, all) refl;
+      rw (append_assoc head.more (motion.more ++ residue.more) rest, head.reads ((motion.more ++ residue.more) ++ rest), append_assoc motion.more residue.more rest, motion.reads (residue.more ++ rest), residue.reads rest, all) refl;
 }
 
 -- a packet of these bits, and 0 bits up to a whole byte, says the frame

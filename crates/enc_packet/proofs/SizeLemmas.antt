@@ -22,8 +22,11 @@ product a b c d first second = grind arith
 
 plane_few : (s : Shape) (pli : ℕ) → length (squares (block_grid s pli)) ≤ plane_blocks s pli
 plane_few s pli =
-    omega (arith, length-squares (block_grid s pli),
-      product (squares_up (block_grid s pli)) (squares_across (block_grid s pli)) (block_rows s pli) (block_columns s pli) (quarter (block_rows s pli)) (quarter (block_columns s pli)))
+    omega (
+      arith,
+      length-squares (block_grid s pli),
+      product (squares_up (block_grid s pli)) (squares_across (block_grid s pli)) (block_rows s pli) (block_columns s pli) (quarter (block_rows s pli)) (quarter (block_columns s pli)),
+    )
 
 superblocks_few : (s : Shape) → length (superblocks s) ≤ length (order_of s)
 superblocks_few s = omega (arith, length-superblocks s, length-order_of s, plane_few s 0, plane_few s 1, plane_few s 2)

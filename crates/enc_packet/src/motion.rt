@@ -16,15 +16,10 @@ use vid_base::{BitWriter, NoMem};
 use vid_geom::Geom;
 
 // Flags, modes and vectors of an inter frame.
-fn write_inter(
-    w: &mut BitWriter,
-    geom: &Geom,
-    head: &Head<'_>,
-    flags: &[bool],
-) -> Result<(), NoMem>
+fn write_inter(w: &mut BitWriter, geom: &Geom, head: &Head<'_>, flags: &[bool]) -> Result<(), NoMem>
     requires flags { flags.now ≡ replicate (length (order_of geom.now)) true }
     requires modes { length head.now.modes.now ≡ length (macro_blocks geom.now) }
-    requires small { All (λ mode. mode < 8) head.now.modes.now }
+    requires small_modes { All (λ mode. mode < 8) head.now.modes.now }
     requires vectors { length head.now.vectors.now ≡ length (order_of geom.now) }
     requires chosen { AreChosen geom.now flags.now head.now.modes.now (map offset_of head.now.vectors.now) }
     ensures reads_back { OnOk result (ReadsBack (motion_of geom.now false) (motion_with flags.now head.now.modes.now head.now.vectors.now) w.old w.new) }
@@ -46,11 +41,10 @@ pub(crate) fn write_motion(
 ) -> Result<(), NoMem>
     requires flags { flags.now ≡ replicate (length (order_of geom.now)) true }
     requires modes { length head.now.modes.now ≡ length (macro_blocks geom.now) }
-    requires small { All (λ mode. mode < 8) head.now.modes.now }
+    requires small_modes { All (λ mode. mode < 8) head.now.modes.now }
     requires vectors { length head.now.vectors.now ≡ length (order_of geom.now) }
-    requires intra_modes { head.now.intra ≡ true → head.now.modes.now ≡ replicate (length (macro_blocks geom.now)) intra_mode }
-    requires intra_vectors { head.now.intra ≡ true → map offset_of head.now.vectors.now ≡ replicate (length (order_of geom.now)) still }
-    requires chosen { head.now.intra ≡ false → AreChosen geom.now flags.now head.now.modes.now (map offset_of head.now.vectors.now) }
+    requires intra { head.now.intra ≡ true → (head.now.modes.now ≡ replicate (length (macro_blocks geom.now)) intra_mode) × (map offset_of head.now.vectors.now ≡ replicate (length (order_of geom.now)) still) }
+    requires inter { head.now.intra ≡ false → AreChosen geom.now flags.now head.now.modes.now (map offset_of head.now.vectors.now) }
     ensures reads_back { OnOk result (ReadsBack (motion_of geom.now head.now.intra) (motion_with flags.now head.now.modes.now head.now.vectors.now) w.old w.new) }
     ensures few { OnOk result (length w.new ≤ length w.old + (7 + 4 * length (superblocks geom.now) + 2 * length (order_of geom.now) + 51 * length (macro_blocks geom.now))) }
 {

@@ -38,10 +38,9 @@ fn write_fields(
     requires flags { flags.now ≡ replicate (length (order_of geom.now)) true }
     requires qi { head.now.qi < 64 }
     requires modes { length head.now.modes.now ≡ length (macro_blocks geom.now) }
-    requires few_modes { All (λ mode. mode < 8) head.now.modes.now }
+    requires small_modes { All (λ mode. mode < 8) head.now.modes.now }
     requires vectors { length head.now.vectors.now ≡ length (order_of geom.now) }
-    requires intra_modes { head.now.intra ≡ true → head.now.modes.now ≡ replicate (length (macro_blocks geom.now)) intra_mode }
-    requires intra_vectors { head.now.intra ≡ true → map offset_of head.now.vectors.now ≡ replicate (length (order_of geom.now)) still }
+    requires intra { head.now.intra ≡ true → (head.now.modes.now ≡ replicate (length (macro_blocks geom.now)) intra_mode) × (map offset_of head.now.vectors.now ≡ replicate (length (order_of geom.now)) still) }
     requires inter { head.now.intra ≡ false → AreChosen geom.now flags.now head.now.modes.now (map offset_of head.now.vectors.now) }
     requires values { length coeffs.now.values.items ≡ length (order_of geom.now) }
     requires small { All (All (λ v. unsigned_abs v ≤ 580)) coeffs.now.values.items }
@@ -75,19 +74,16 @@ pub fn write_packet(
     requires kinds { kinds.now ≡ kinds_of geom.now head.now.modes.now }
     requires qi { head.now.qi < 64 }
     requires modes { length head.now.modes.now ≡ length (macro_blocks geom.now) }
-    requires few_modes { All (λ mode. mode < 8) head.now.modes.now }
+    requires small_modes { All (λ mode. mode < 8) head.now.modes.now }
     requires vectors { length head.now.vectors.now ≡ length (order_of geom.now) }
-    requires intra_modes { head.now.intra ≡ true → head.now.modes.now ≡ replicate (length (macro_blocks geom.now)) intra_mode }
-    requires intra_vectors { head.now.intra ≡ true → map offset_of head.now.vectors.now ≡ replicate (length (order_of geom.now)) still }
+    requires intra { head.now.intra ≡ true → (head.now.modes.now ≡ replicate (length (macro_blocks geom.now)) intra_mode) × (map offset_of head.now.vectors.now ≡ replicate (length (order_of geom.now)) still) }
     requires inter { head.now.intra ≡ false → AreChosen geom.now flags.now head.now.modes.now (map offset_of head.now.vectors.now) }
     requires values { length coeffs.old.values.items ≡ length (order_of geom.now) }
     requires small { All (All (λ v. unsigned_abs v ≤ 580)) (with_planes applied geom.now flags.now kinds.now coeffs.old.values.items) }
     requires rows { rows.now ≡ full_rows (contents setup.now).forest }
     ensures says { IfOk result (λ packet. (counts : List ℕ) × (coded_in (contents setup.now) geom.now packet.items ≡ Ok (whole_frame geom.now head.now.intra head.now.qi head.now.modes.now (map offset_of head.now.vectors.now) coeffs.old.values.items counts))) }
-    ensures needs { IfOk result (λ packet. needs_frame packet.items ≡ not head.now.intra) }
-    ensures key { IfOk result (λ packet. is_key packet.items ≡ head.now.intra) }
-    ensures some { IfOk result (λ packet. 0 < length packet.items) }
-    ensures few { IfOk result (λ packet. length packet.items < 2 ^ 30) }
+    ensures kind { IfOk result (λ packet. (needs_frame packet.items ≡ not head.now.intra) × (is_key packet.items ≡ head.now.intra)) }
+    ensures few { IfOk result (λ packet. (0 < length packet.items) × (length packet.items < 2 ^ 30)) }
     ensures sized { length coeffs.new.values.items ≡ length (order_of geom.now) }
     ensures counts { coeffs.new.counts.items ≡ coeffs.old.counts.items }
 {

@@ -5,4 +5,4 @@ use Rattle.enc_packet.proofs.motion.write_motion.Goals as goal
 
 pub returns-then-head-clause-reads_back : goal.returns-then-head-clause-reads_back
 returns-then-head-clause-reads_back c =
-    rw c.if-head.true (intra_back c.args.geom.now c.args.flags.now c.args.head.now.modes.now (map offset_of c.args.head.now.vectors.now) c.args.w.now c.requires.flags (c.requires.intra_modes c.if-head.true) (c.requires.intra_vectors c.if-head.true))
+    rw c.if-head.true (intra_back c.args.geom.now c.args.flags.now c.args.head.now.modes.now (map offset_of c.args.head.now.vectors.now) c.args.w.now c.requires.flags (c.requires.intra c.if-head.true).0 (c.requires.intra c.if-head.true).1)

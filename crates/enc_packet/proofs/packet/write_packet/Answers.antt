@@ -17,21 +17,19 @@ apply_dc-requires-clause-kinds c =
 pub returns-clause-says : goal.returns-clause-says
 returns-clause-says c =
     let fields = c.in_ok-w.ensures.reads_back in
-    let undo = c.apply_dc.ensures.reads_back in
-    (
+    let undo = c.apply_dc.ensures.reads_back in (
       fields.0,
       packet_says (contents c.args.setup.now) c.args.geom.now c.args.head.now.intra c.args.head.now.qi c.args.head.now.modes.now (map offset_of c.args.head.now.vectors.now)
-      c.apply_dc.new.coeffs.values.items c.args.coeffs.now.values.items fields.0 c.in_ok-w.w c.finish-packet.result.items (to_byte (length c.in_ok-w.w)) fields.1 c.finish-packet.ensures (rw (c.requires.flags, c.requires.kinds) at undo),
+          c.apply_dc.new.coeffs.values.items c.args.coeffs.now.values.items fields.0 c.in_ok-w.w c.finish-packet.result.items (to_byte (length c.in_ok-w.w)) fields.1 c.finish-packet.ensures (rw (c.requires.flags, c.requires.kinds) at undo),
     )
 
-pub returns-clause-needs : goal.returns-clause-needs
-returns-clause-needs c = needs_is (contents c.args.setup.now) c.args.geom.now c.finish-packet.result.items _ (λ k d lt. search rules) (returns-clause-says c).1
-
-pub returns-clause-key : goal.returns-clause-key
-returns-clause-key c = key_is (contents c.args.setup.now) c.args.geom.now c.finish-packet.result.items _ (λ k d lt. search rules) (returns-clause-says c).1
-
-pub returns-clause-some : goal.returns-clause-some
-returns-clause-some c = some_bytes (contents c.args.setup.now) c.args.geom.now c.finish-packet.result.items _ (returns-clause-says c).1
+pub returns-clause-kind : goal.returns-clause-kind
+returns-clause-kind c =
+    let says = (returns-clause-says c).1 in
+    let bytes : All (λ byte. byte < 256) c.finish-packet.result.items = λ k d lt. search rules in
+    (needs_is (contents c.args.setup.now) c.args.geom.now c.finish-packet.result.items _ bytes says, key_is (contents c.args.setup.now) c.args.geom.now c.finish-packet.result.items _ bytes says)
 
 pub returns-clause-few : goal.returns-clause-few
-returns-clause-few c = packet_few c.in_ok-w.w c.finish-packet.result.items c.finish-packet.ensures c.in_ok-w.ensures.few
+returns-clause-few c =
+    let says = (returns-clause-says c).1 in
+    (some_bytes (contents c.args.setup.now) c.args.geom.now c.finish-packet.result.items _ says, packet_few c.in_ok-w.w c.finish-packet.result.items c.finish-packet.ensures c.in_ok-w.ensures.few)
