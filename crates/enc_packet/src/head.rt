@@ -19,6 +19,12 @@ pub struct Head<'a> {
     pub vectors: &'a [Vector],
 }
 
+/// The first bit of the packet of a frame.
+const DATA: bool = false;
+
+/// What stands behind the last quantiser index (MOREQIS).
+const LAST_INDEX: bool = false;
+
 /// Adds one bit.
 #[tactic(auto, unfolding(vid_base::specs::Bits::digits))]
 fn write_bit(w: &mut BitWriter, bit: bool) -> Result<(), NoMem>
@@ -32,7 +38,7 @@ fn write_bit(w: &mut BitWriter, bit: bool) -> Result<(), NoMem>
 fn write_end(w: &mut BitWriter, intra: bool) -> Result<(), NoMem>
     ensures { OnOk result (w.new ≡ w.old ++ end_code intra) }
 {
-    write_bit(w, false)?;
+    write_bit(w, LAST_INDEX)?;
     if intra { w.put(0, 3) } else { Ok(()) }
 }
 
@@ -43,7 +49,7 @@ pub(crate) fn write_head(w: &mut BitWriter, intra: bool, qi: u8) -> Result<(), N
     ensures reads_back { OnOk result (ReadsBack head_of (head_with intra (qi ∷ [])) w.old w.new) }
     ensures few { OnOk result (length w.new ≤ length w.old + 12) }
 {
-    write_bit(w, false)?;
+    write_bit(w, DATA)?;
     write_bit(w, !intra)?;
     w.put(u32::from(qi), 6)?;
     write_end(w, intra)
