@@ -1,5 +1,5 @@
 -- What is written for a head is read as it. `write_head` cites these.
-use Rattle.std.proofs.Common.{◌≡◌, ◌∙◌, ℕ, ◌+◌, ◌<◌, ◌≤◌, ◌^◌, Bool, true, false, not, List, [], ◌∷◌, ◌++◌, length, Ok, refl, ap, sym, arith, lit<, append_assoc, length-append}
+use Rattle.std.proofs.Common.{◌≡◌, ℕ, ◌+◌, ◌<◌, ◌≤◌, ◌^◌, Bool, true, false, not, List, [], ◌∷◌, ◌++◌, length, Ok, refl, ap, arith, lit<, append_assoc, length-append}
 use Rattle.vid_base.specs.Bits.{digits}
 use Rattle.vid_base.specs.Reading.{one_bit}
 use Rattle.vid_base.specs.Writing.{ReadsBack}

@@ -1,7 +1,7 @@
 -- Where all blocks are coded: no macro block is without a coded block, and what is written for flags, modes and vectors is read as them.
 -- `write_inter`, `write_motion` and `write_residue` cite these.
-use Rattle.std.proofs.Common.{◌≡◌, ◌∙◌, ℕ, zero, suc, ◌<◌, Bool, true, false, List, [], ◌∷◌, ◌++◌, length, get_or, map, replicate, Some, Ok, slice_get, refl, ap, sym, subst, arith, append_assoc}
-use Rattle.std.specs.Prelude.{ℤ, pos}
+use Rattle.std.proofs.Common.{◌≡◌, ◌∙◌, ℕ, zero, suc, ◌<◌, Bool, true, false, List, [], ◌++◌, length, get_or, map, replicate, refl, sym, arith, append_assoc}
+use Rattle.std.specs.Prelude.{ℤ}
 use Rattle.std.specs.List.{All, list_any}
 use Rattle.std.proofs.lemmas.List.{append-nil, get_or-map, get_or-replicate, length-map, length-replicate}
 use Rattle.std.proofs.lemmas.List.Elements.{All-map}
@@ -23,7 +23,7 @@ use Rattle.thr_modes.specs.Vectors.{Offset, still}
 use Rattle.thr_modes.specs.Motion.{vectors_of}
 use Rattle.thr_token.specs.Tokenised.{AreBlank}
 use Rattle.thr_frame.specs.CodedFrame.{intra_mode}
-use Rattle.thr_frame.specs.Parsed.{Motion, motion_behind, motion_of}
+use Rattle.thr_frame.specs.Parsed.{motion_behind, motion_of}
 
 -- flags of blocks that are all coded
 abbrev pub all_coded : Shape → List Bool

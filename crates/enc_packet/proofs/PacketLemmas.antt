@@ -1,13 +1,12 @@
 -- Head, motion and residue, one behind the other, are a frame, and their bytes are a packet that says it. `write_residue`, `write_fields`
 -- and `write_packet` cite these.
-use Rattle.std.proofs.Common.{◌≡◌, ◌∙◌, ℕ, zero, suc, ◌+◌, ◌-◌, ◌*◌, ◌/◌, ◌%◌, ◌<◌, ◌≤◌, ◌^◌, Bool, true, false, not, List, [], ◌∷◌, ◌++◌, length, replicate, Result, Ok, Err, refl, ap, sym, subst, arith, append_assoc, length-append}
+use Rattle.std.proofs.Common.{◌≡◌, ◌∙◌, ℕ, ◌+◌, ◌/◌, ◌<◌, ◌≤◌, ◌^◌, Bool, true, false, not, List, [], ◌∷◌, ◌++◌, length, Ok, Err, refl, ap, sym, arith, append_assoc, length-append}
 use Rattle.std.specs.Prelude.{◌==◌, ℤ}
 use Rattle.std.specs.List.{All}
 use Rattle.std.proofs.lemmas.Bool.Decides.{nat_tests}
 use Rattle.std.proofs.lemmas.List.{length-replicate}
 use Rattle.std.proofs.lemmas.List.Elements.{All-head}
 use Rattle.vid_base.specs.declared.shape.Shape.{Shape}
-use Rattle.vid_base.specs.declared.fault.PacketFault.{PacketFault}
 use Rattle.vid_base.specs.declared.fault.PacketFault.TheVariants.{Ended}
 use Rattle.vid_base.specs.Bits.{bit_of, bits_of, to_byte, zeros}
 use Rattle.vid_base.specs.Reading.{◌>>=◌, one_bit}
@@ -22,9 +21,9 @@ use Rattle.thr_dc.specs.Prediction.{undone}
 use Rattle.thr_frame.specs.FrameHead.{head_of, head_with}
 use Rattle.thr_frame.specs.QuantiserPlaces.{places_of, rounds}
 use Rattle.thr_frame.specs.CodedFrame.{CodedFrame, kinds_of}
-use Rattle.thr_frame.specs.Parsed.{Motion, Residue, coded_in, fields_of, is_inter, joined_fields, motion_of, needs_frame, parsed, residue_of, with_dc_values}
+use Rattle.thr_frame.specs.Parsed.{coded_in, fields_of, is_inter, joined_fields, motion_of, needs_frame, parsed, residue_of, with_dc_values}
 use Rattle.thr_frame.specs.Step.{is_key}
-use Rattle.thr_frame.proofs.KeyLemmas.{head_intra, intra_is, second_bit}
+use Rattle.thr_frame.proofs.KeyLemmas.{head_intra, intra_is}
 use Rattle.thr_frame.proofs.StepLemmas.{both}
 use Rattle.enc_packet.specs.WholeFrame.{whole_frame, whole_residue}
 use Rattle.enc_packet.proofs.MotionLemmas.{all_coded, any_coded}

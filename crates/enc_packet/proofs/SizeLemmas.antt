@@ -1,12 +1,11 @@
 -- How many superblocks, macro blocks and blocks a frame has at most. `write_fields` cites this, so that a packet has fewer bytes than 2^30.
-use Rattle.std.proofs.Common.{◌≡◌, ◌∙◌, ℕ, ◌+◌, ◌*◌, ◌/◌, ◌%◌, ◌<◌, ◌≤◌, Bool, true, false, cond, length, refl, ap, arith}
-use Rattle.std.specs.Prelude.{◌==◌, ◌||◌}
+use Rattle.std.proofs.Common.{ℕ, ◌+◌, ◌*◌, ◌/◌, ◌≤◌, Bool, true, false, cond, length, arith}
+use Rattle.std.specs.Prelude.{◌==◌}
 use Rattle.std.specs.Int.{div_ceil}
-use Rattle.std.proofs.Math.Nat.{mul-le-mul_left, mul-le-mul_right}
+use Rattle.std.proofs.Math.Nat.{mul-le-mul_left}
 use Rattle.vid_base.specs.declared.shape.Shape.{Shape}
-use Rattle.vid_base.specs.Sizes.{most_macro_blocks}
-use Rattle.vid_geom.specs.Squares.{Grid, side_of, squares, squares_across, squares_up}
-use Rattle.vid_geom.specs.CodedOrder.{block_columns, block_grid, block_rows, most_blocks, order_of, plane_blocks, superblocks}
+use Rattle.vid_geom.specs.Squares.{squares, squares_across, squares_up}
+use Rattle.vid_geom.specs.CodedOrder.{block_columns, block_grid, block_rows, order_of, plane_blocks, superblocks}
 use Rattle.vid_geom.specs.MacroBlocks.{columns_in, macro_blocks, rows_in}
 use Rattle.vid_geom.proofs.CellLemmas.{length-squares}
 use Rattle.vid_geom.proofs.MacroBlockLemmas.{blocks_by_macro_blocks, length-macro_blocks}

@@ -1,4 +1,4 @@
-use Rattle.std.proofs.Common.{◌≡◌, ◌∙◌, ℕ, ◌<◌, rules, ap, length, map, Ok}
+use Rattle.std.proofs.Common.{◌∙◌, ◌<◌, rules, ap, length, map}
 use Rattle.std.specs.List.{All}
 use Rattle.std.proofs.lemmas.List.{length-map}
 use Rattle.vid_base.specs.Bits.{to_byte}

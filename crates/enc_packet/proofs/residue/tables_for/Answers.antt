@@ -1,10 +1,9 @@
-use Rattle.std.proofs.Common.{sym, subst}
+use Rattle.std.proofs.Common.{subst}
 use Rattle.std.specs.Prelude.{List, ℕ}
 use Rattle.std.proofs.lemmas.List.Elements.{All-weaker}
-use Rattle.thr_token.specs.declared.token.Tables.{Tables}
 use Rattle.thr_token.specs.Tokenised.{IsToken}
 use Rattle.thr_token.specs.WrittenTokens.{IsHeld}
-use Rattle.enc_packet.specs.FullRows.{AreAmong, full_rows}
+use Rattle.enc_packet.specs.FullRows.{AreAmong}
 use Rattle.enc_packet.proofs.RowLemmas.{row_is_full, held_by_rows}
 use Rattle.enc_packet.proofs.residue.tables_for.Goals as goal
 

@@ -1,4 +1,4 @@
-use Rattle.std.proofs.Common.{◌≡◌, ◌≤◌, ◌+◌, ◌∙◌, ℕ, ap, sym, length, arith, subst}
+use Rattle.std.proofs.Common.{◌∙◌, ap, length, arith}
 use Rattle.enc_packet.proofs.RowLemmas.{row_kept, row_left}
 use Rattle.enc_packet.proofs.rows.numbers_of.Goals as goal
 use Rattle.enc_packet.proofs.rows.numbers_of.Goals.{then-is_full_row, else-is_full_row}
