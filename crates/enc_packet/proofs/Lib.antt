@@ -3,3 +3,4 @@ pub mod RowLemmas
 pub mod SizeLemmas
 pub mod MotionLemmas
 pub mod PacketLemmas
+pub mod StillLemmas

@@ -1,4 +1,4 @@
-ghost use Rattle.std.specs.Prelude.{◌≡◌, ◌≤◌, ◌<◌, All, IfOk, length, map, replicate, true, unsigned_abs};
+ghost use Rattle.std.specs.Prelude.{◌≡◌, ◌≤◌, ◌<◌, All, IfOk, false, length, map, replicate, true, unsigned_abs};
 ghost use Rattle.vid_geom.specs.CodedOrder.{order_of};
 ghost use Rattle.vid_geom.specs.MacroBlocks.{macro_blocks};
 ghost use Rattle.thr_setup.specs.Setup.{contents};
@@ -13,7 +13,7 @@ use std::alloc::Global;
 use std::process::Abort;
 use std::test::Fail;
 use thr_dc::apply_dc;
-use thr_frame::{fill_kinds, parse_frame};
+use thr_frame::{Coded, fill_kinds, parse_frame};
 use thr_setup::{Setup, import_setup};
 use thr_token::Coeffs;
 use vid_base::{NoMem, Shape, Vector};
@@ -57,11 +57,19 @@ fn stills(alloc: Global, n: u32) -> Result<Vec<Vector>, NoMem>
     Ok(vec![in alloc; Vector { x: 0, y: 0 }; n as usize]?)
 }
 
-fn intra_modes(alloc: Global, geom: &Geom) -> Result<Vec<u8>, NoMem>
-    ensures value { IfOk result (λ v. v.items ≡ replicate (length (macro_blocks geom.now)) intra_mode) }
+// All macro blocks have mode 1 in an intra frame, and mode 0 in an inter frame.
+fn same_modes(alloc: Global, geom: &Geom, intra: bool) -> Result<Vec<u8>, NoMem>
+    ensures sized { IfOk result (λ v. length v.items ≡ length (macro_blocks geom.now)) }
     ensures small { IfOk result (λ v. All (λ mode. mode < 8) v.items) }
+    ensures intra { IfOk result (λ v. intra ≡ true → v.items ≡ replicate (length (macro_blocks geom.now)) intra_mode) }
+    ensures inter { IfOk result (λ v. intra ≡ false → v.items ≡ replicate (length (macro_blocks geom.now)) 0) }
 {
-    Ok(vec![in alloc; 1u8; geom.macro_blocks() as usize]?)
+    let count = geom.macro_blocks() as usize;
+    if intra {
+        Ok(vec![in alloc; 1u8; count]?)
+    } else {
+        Ok(vec![in alloc; 0u8; count]?)
+    }
 }
 
 // The luma blocks of the first macro block have this DC value.
@@ -73,32 +81,32 @@ fn set_luma(values: &mut [[i16; 64]], dc: i16) {
     }
 }
 
-// The packet of an intra frame of one macro block, whose luma blocks have this DC value, and all other coefficients are 0.
+// The packet of a frame of one macro block without motion, whose luma blocks have this DC value, and all other coefficients
+// are 0.
 fn written(
     rt: &impl Abort,
     alloc: Global,
     geom: &Geom,
     setup: &Setup,
-    qi: u8,
-    dc: i16,
+    row: &Row,
 ) -> Result<Vec<u8>, NoMem>
-    requires { qi < 64 }
+    requires { row.now.qi < 64 }
 {
     let rows = Rows::new(&setup.forest).expect(rt, "no row holds all tokens");
     let blocks = geom.blocks();
     let flags = vec![in alloc; true; blocks as usize]?;
-    let modes = intra_modes(alloc, geom)?;
+    let modes = same_modes(alloc, geom, row.intra)?;
     let vectors = stills(alloc, blocks)?;
     let mut kinds = vec![in alloc; 0u8; blocks as usize]?;
     fill_kinds(geom, &modes, &mut kinds);
     let mut coeffs = Coeffs::new(alloc);
     coeffs.values = vec![in alloc; [0i16; 64]; blocks as usize]?;
-    set_luma(&mut coeffs.values, dc);
+    set_luma(&mut coeffs.values, row.dc);
     let small = fits(alloc, geom, &flags, &kinds, &coeffs)?;
     assert!(rt; small);
     let head = Head {
-        intra: true,
-        qi,
+        intra: row.intra,
+        qi: row.qi,
         modes: &modes,
         vectors: &vectors,
     };
@@ -114,13 +122,50 @@ fn written(
     )
 }
 
-/// A quantiser index, the DC value of all luma blocks, and the packet: of the first all blocks end at once, in a run of 6 by
-/// table 0 (code 00011); of the other the first block has the difference 1 (token 9), and its other differences are 0, for
-/// which table 1 has 8 bits (codes 100 and 11001) and table 0 has 10.
-const PACKETS: [(u8, i16, [u8; 5]); 2] = [
-    (30, 0, [0x1e, 0x00, 0x01, 0xc0, 0x00]),
-    (63, 1, [0x3f, 0x01, 0x09, 0x98, 0x00]),
+/// Whether the frame is intra, its quantiser index, the DC value of all luma blocks, and the packet.
+struct Row {
+    intra: bool,
+    qi: u8,
+    dc: i16,
+    packet: &'static [u8],
+}
+
+/// All blocks end at once, in a run of 6 by table 0 (code 00011); the first block has the difference 1 (token 9), and the
+/// other differences are 0, for which table 1 has 8 bits (codes 100 and 11001) and table 0 has 10; and an inter frame whose
+/// blocks end at once.
+const ROWS: [Row; 3] = [
+    Row {
+        intra: true,
+        qi: 30,
+        dc: 0,
+        packet: &[0x1e, 0x00, 0x01, 0xc0, 0x00],
+    },
+    Row {
+        intra: true,
+        qi: 63,
+        dc: 1,
+        packet: &[0x3f, 0x01, 0x09, 0x98, 0x00],
+    },
+    Row {
+        intra: false,
+        qi: 30,
+        dc: 0,
+        packet: &[0x5e, 0x2e, 0xf1, 0x00, 0x1c, 0x00],
+    },
 ];
+
+// A frame says what the row says.
+fn assert_says(rt: &impl Abort, coded: &Coded, row: &Row) {
+    assert_eq!(rt; coded.intra, row.intra);
+    assert!(rt; coded.qis.as_slice() == [row.qi].as_slice());
+    assert!(rt; coded.flags.iter().all(|flag| *flag));
+    assert_eq!(rt; coded.coeffs.values.len(), 6);
+    for (b, values) in coded.coeffs.values.iter().enumerate() {
+        let dc = if b < 4 { row.dc } else { 0 };
+        assert_eq!(rt; values[0], dc);
+        assert!(rt; values[1..].iter().all(|value| *value == 0));
+    }
+}
 
 #[test]
 fn a_packet_is_written_by_the_shortest_rows_and_read_as_it_was_given(
@@ -129,19 +174,12 @@ fn a_packet_is_written_by_the_shortest_rows_and_read_as_it_was_given(
     let shape = Shape::new(1, 1, 0).expect(&rt, "no shape");
     let geom = Geom::new(rt.alloc(), shape)?;
     let setup = import_setup(rt.alloc())?;
-    for (qi, dc, packet) in PACKETS {
-        assert!(rt; qi < 64);
-        let bytes = written(&rt, rt.alloc(), &geom, &setup, qi, dc)?;
-        assert!(rt; bytes.as_slice() == packet.as_slice(), "{bytes:?}");
+    for row in &ROWS {
+        assert!(rt; row.qi < 64);
+        let bytes = written(&rt, rt.alloc(), &geom, &setup, row)?;
+        assert!(rt; bytes.as_slice() == row.packet, "{bytes:?}");
         let coded = parse_frame(rt.alloc(), &geom, &setup, &bytes)?;
-        assert!(rt; coded.intra);
-        assert!(rt; coded.qis.as_slice() == [qi].as_slice());
-        assert_eq!(rt; coded.coeffs.values.len(), 6);
-        for (b, values) in coded.coeffs.values.iter().enumerate() {
-            let wanted = if b < 4 { dc } else { 0 };
-            assert_eq!(rt; values[0], wanted);
-            assert!(rt; values[1..].iter().all(|value| *value == 0));
-        }
+        assert_says(&rt, &coded, row);
     }
     Ok(())
 }
