@@ -5,7 +5,7 @@ ghost use Rattle.thr_setup.specs.Setup.{contents};
 ghost use Rattle.thr_modes.specs.Vectors.{offset_of, still};
 ghost use Rattle.thr_dc.specs.Frames.{with_planes};
 ghost use Rattle.thr_dc.specs.Prediction.{applied};
-ghost use Rattle.thr_frame.specs.CodedFrame.{intra_mode};
+ghost use Rattle.thr_frame.specs.CodedFrame.{intra_mode, kinds_of};
 ghost use Rattle.enc_packet.specs.FullRows.{full_rows};
 
 use crate::{Head, Rows, write_packet};
@@ -52,7 +52,8 @@ fn fits(
 
 #[tactic(auto, unfolding(thr_modes::specs::Vectors::offset_of), using(thr_frame::proofs::MotionLemmas::still_all))]
 fn stills(alloc: Global, n: u32) -> Result<Vec<Vector>, NoMem>
-    ensures { IfOk result (λ v. map offset_of v.items ≡ replicate n still) }
+    ensures still { IfOk result (λ v. map offset_of v.items ≡ replicate n still) }
+    ensures sized { IfOk result (λ v. length v.items ≡ n) }
 {
     Ok(vec![in alloc; Vector { x: 0, y: 0 }; n as usize]?)
 }
@@ -81,18 +82,48 @@ fn set_luma(values: &mut [[i16; 64]], dc: i16) {
     }
 }
 
-// The packet of a frame of one macro block without motion, whose luma blocks have this DC value, and all other coefficients
-// are 0.
-fn written(
-    rt: &impl Abort,
+// The packet of coefficients that fit.
+fn write_fitting(
     alloc: Global,
     geom: &Geom,
     setup: &Setup,
+    rows: &Rows,
+    head: &Head<'_>,
+    flags: &[bool],
+    kinds: &[u8],
+    coeffs: &mut Coeffs,
+) -> Result<Vec<u8>, NoMem>
+    requires flags { flags.now ≡ replicate (length (order_of geom.now)) true }
+    requires kinds { kinds.now ≡ kinds_of geom.now head.now.modes.now }
+    requires long { length kinds.now ≡ length (order_of geom.now) }
+    requires qi { head.now.qi < 64 }
+    requires modes { length head.now.modes.now ≡ length (macro_blocks geom.now) }
+    requires small_modes { All (λ mode. mode < 8) head.now.modes.now }
+    requires vectors { length head.now.vectors.now ≡ length (order_of geom.now) }
+    requires intra { head.now.intra ≡ true → head.now.modes.now ≡ replicate (length (macro_blocks geom.now)) intra_mode }
+    requires inter { head.now.intra ≡ false → head.now.modes.now ≡ replicate (length (macro_blocks geom.now)) 0 }
+    requires still { map offset_of head.now.vectors.now ≡ replicate (length (order_of geom.now)) still }
+    requires values { length coeffs.old.values.items ≡ length (order_of geom.now) }
+    requires rows { rows.now ≡ full_rows (contents setup.now).forest }
+{
+    if fits(alloc, geom, flags, kinds, coeffs)? {
+        write_packet(alloc, geom, setup, rows, head, flags, kinds, coeffs)
+    } else {
+        Err(NoMem)
+    }
+}
+
+// The packet of a frame without motion, whose first four luma blocks have this DC value, and all other coefficients are 0.
+fn written(
+    alloc: Global,
+    geom: &Geom,
+    setup: &Setup,
+    rows: &Rows,
     row: &Row,
 ) -> Result<Vec<u8>, NoMem>
-    requires { row.now.qi < 64 }
+    requires qi { row.now.qi < 64 }
+    requires rows { rows.now ≡ full_rows (contents setup.now).forest }
 {
-    let rows = Rows::new(&setup.forest).expect(rt, "no row holds all tokens");
     let blocks = geom.blocks();
     let flags = vec![in alloc; true; blocks as usize]?;
     let modes = same_modes(alloc, geom, row.intra)?;
@@ -102,24 +133,13 @@ fn written(
     let mut coeffs = Coeffs::new(alloc);
     coeffs.values = vec![in alloc; [0i16; 64]; blocks as usize]?;
     set_luma(&mut coeffs.values, row.dc);
-    let small = fits(alloc, geom, &flags, &kinds, &coeffs)?;
-    assert!(rt; small);
     let head = Head {
         intra: row.intra,
         qi: row.qi,
         modes: &modes,
         vectors: &vectors,
     };
-    write_packet(
-        alloc,
-        geom,
-        setup,
-        &rows,
-        &head,
-        &flags,
-        &kinds,
-        &mut coeffs,
-    )
+    write_fitting(alloc, geom, setup, rows, &head, &flags, &kinds, &mut coeffs)
 }
 
 /// Whether the frame is intra, its quantiser index, the DC value of all luma blocks, and the packet.
@@ -174,9 +194,10 @@ fn a_packet_is_written_by_the_shortest_rows_and_read_as_it_was_given(
     let shape = Shape::new(1, 1, 0).expect(&rt, "no shape");
     let geom = Geom::new(rt.alloc(), shape)?;
     let setup = import_setup(rt.alloc())?;
+    let rows = Rows::new(&setup.forest).expect(&rt, "no row holds all tokens");
     for row in &ROWS {
         assert!(rt; row.qi < 64);
-        let bytes = written(&rt, rt.alloc(), &geom, &setup, row)?;
+        let bytes = written(rt.alloc(), &geom, &setup, &rows, row)?;
         assert!(rt; bytes.as_slice() == row.packet, "{bytes:?}");
         let coded = parse_frame(rt.alloc(), &geom, &setup, &bytes)?;
         assert_says(&rt, &coded, row);
