@@ -11,7 +11,7 @@ pub(crate) const GROUPS: usize = 5;
 pub(crate) const TOKENS: usize = 32;
 
 /// How often each token stands in each group of places, for the blocks of luma and for those of chroma.
-#[derive(Clone, Copy)]
+#[derive(Drop)]
 pub(crate) struct Counts {
     pub(crate) luma: [[u32; TOKENS]; GROUPS],
     pub(crate) chroma: [[u32; TOKENS]; GROUPS],

@@ -117,6 +117,7 @@ impl Rows {
         ensures some { IfSome result (λ rows. rows ≡ full_rows forest.now) }
         ensures row { IfSome result (λ _. full_row_of forest.now ≢ None) }
     {
+        // So `numbers` is not empty.
         let _first = forest.full_row()?;
         let numbers = numbers_of(forest);
         let mut lengths = [[0; TOKENS]; TREES];
