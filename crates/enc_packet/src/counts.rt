@@ -1,5 +1,6 @@
 // How often each token stands in a frame (own).
-ghost use Rattle.std.specs.Prelude.{◌<◌, All};
+ghost use Rattle.std.specs.Prelude.{◌≡◌, ◌<◌, All};
+ghost use Rattle.thr_token.specs.Coefficients.{group_of};
 ghost use Rattle.thr_token.specs.Tokenised.{IsToken};
 
 use thr_token::Token;
@@ -17,9 +18,10 @@ pub(crate) struct Counts {
     pub(crate) chroma: [[u32; TOKENS]; GROUPS],
 }
 
-/// The group of a place.
+/// The group of a place (Theora I, 7.7.3).
 fn group_of(place: u8) -> usize
-    ensures { result < 5 }
+    ensures value { result ≡ group_of place }
+    ensures small { result < 5 }
 {
     match place {
         0 => 0,
