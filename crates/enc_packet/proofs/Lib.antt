@@ -1,0 +1,6 @@
+pub mod HeadLemmas
+pub mod RowLemmas
+pub mod SizeLemmas
+pub mod MotionLemmas
+pub mod PacketLemmas
+pub mod StillLemmas
