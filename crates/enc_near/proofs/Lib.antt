@@ -1,1 +1,4 @@
 pub mod DistanceLemmas
+pub mod ZigzagLemmas
+pub mod LackingLemmas
+pub mod CoefficientLemmas
