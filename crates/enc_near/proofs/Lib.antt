@@ -2,3 +2,4 @@ pub mod DistanceLemmas
 pub mod ZigzagLemmas
 pub mod LackingLemmas
 pub mod CoefficientLemmas
+pub mod SampleLemmas

@@ -71,13 +71,22 @@ fn matrix_place(kind: u8, pli: u8) -> usize
 }
 
 impl Sources<'_> {
+    // A plane of the frame that is to be coded.
+    fn target_plane(&self, pli: u8) -> &Plane
+        requires { pli < 3 }
+        ensures value { result.now ≡ plane_of self.now.target.now pli }
+        ensures sized { IsPlaneOf self.now.geom.now pli result.now }
+    {
+        self.target.plane(pli)
+    }
+
     // The samples of a block of the frame that is to be coded, the lowest row first.
     fn target_rows(&self, block: Block) -> [[u8; 8]; 8]
         requires { IsBlock self.now.geom.now block }
         ensures { result ≡ block_of (block_samples self.now.target.now block) }
     {
         rows(
-            self.target.plane(block.pli),
+            self.target_plane(block.pli),
             8 * block.col,
             8 * block.row,
         )
