@@ -3,3 +3,4 @@ pub mod ZigzagLemmas
 pub mod LackingLemmas
 pub mod CoefficientLemmas
 pub mod SampleLemmas
+pub mod MakingLemmas

@@ -34,7 +34,7 @@ predictor_is s refs c b = go (mode_at s c b == intra_mode) (is_golden (mode_at s
     v = get_or c.vectors (place_of s b) still
 
     go : (intra golden : Bool) → (mode_at s c b == intra_mode) ≡ intra → is_golden (mode_at s c b) ≡ golden → samples_by s refs (kind_of (mode_at s c b)) v b ≡ predictor_at s refs c b
-    go true golden e g = rw (e, g) refl
+    go true golden e g = rw e refl
     go false true e g = rw (e, g) refl
     go false false e g = rw (e, g) refl
 
@@ -43,6 +43,6 @@ pub matrix_kind_is : (mode : ℕ) → (if kind_of mode == 0 then 0 else 3) ≡ 3
 matrix_kind_is mode = go (mode == intra_mode) (is_golden mode) refl refl
   where
     go : (intra golden : Bool) → (mode == intra_mode) ≡ intra → is_golden mode ≡ golden → (if kind_of mode == 0 then 0 else 3) ≡ 3 * matrix_kind mode
-    go true golden e g = rw (e, g) refl
+    go true golden e g = rw e refl
     go false true e g = rw (e, g) refl
     go false false e g = rw (e, g) refl

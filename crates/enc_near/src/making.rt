@@ -129,6 +129,7 @@ impl Sources<'_> {
     // What the coefficients of a block are to be times their entries.
     fn wanted(&self, block: Block, place: u32) -> [i32; 64]
         requires inside { IsBlock self.now.geom.now block }
+        requires below { place < length (order_of self.now.geom.now) }
         requires place { place ≡ place_of self.now.geom.now block }
         ensures value { result ≡ wanted_by self.now block }
         ensures bounds { All (Within 8160) result }
@@ -140,6 +141,7 @@ impl Sources<'_> {
     // The matrix of a block.
     fn matrix(&self, block: Block, place: u32) -> &[u16; 64]
         requires inside { IsBlock self.now.geom.now block }
+        requires below { place < length (order_of self.now.geom.now) }
         requires place { place ≡ place_of self.now.geom.now block }
         ensures value { result.now ≡ matrix_by self.now block }
         ensures entries { AreEntries result.now }
