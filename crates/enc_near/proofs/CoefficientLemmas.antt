@@ -47,6 +47,7 @@ more_made f m z out v some below nearest small made = record {
 
 pub all_made : (f : List ℤ) (m : List ℕ) (z : ℕ) (out : List ℤ) → 64 ≤ z → AreFirstMade f m z out → AreMade f m out
 all_made f m z out past made = record {
+  long = made.long;
   first = made.first;
   others = λ k some below. (let P : ℕ → Type 0 = λ n. IsNearest (entry f n) (get_or m n 0) fewest most (entry out (get_or zigzag k 0)) in
       let within = zigzag_below k below in

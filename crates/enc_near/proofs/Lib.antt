@@ -4,3 +4,5 @@ pub mod LackingLemmas
 pub mod CoefficientLemmas
 pub mod SampleLemmas
 pub mod MakingLemmas
+pub mod DcLemmas
+pub mod NearLemmas

@@ -1,6 +1,6 @@
 -- (private) The coefficients of a block before its DC value is kept near a predictor (own): f is what they are to be times their entries,
 -- in natural order, m the matrix, z the coefficients in zigzag order.
-use Rattle.std.specs.Prelude.{ℕ, ◌≡◌, ◌≤◌, ◌<◌, ◌+◌, ◌*◌, ◌==◌, ℤ, unsigned_abs, All, List, [], ◌∷◌, get_or, if◌then◌else◌}
+use Rattle.std.specs.Prelude.{ℕ, ◌≡◌, ◌≤◌, ◌<◌, ◌+◌, ◌*◌, ◌==◌, ℤ, unsigned_abs, All, List, [], ◌∷◌, length, get_or, if◌then◌else◌}
 use Rattle.vid_base.specs.declared.shape.Shape.{Shape}
 use Rattle.vid_geom.specs.declared.block.Block.{Block}
 use Rattle.vid_plane.specs.Frames.{plane_of}
@@ -29,6 +29,7 @@ natural =
 
 -- nearest coefficients, and the first a quotient to the nearest whole number
 pub record AreMade (f : List ℤ) (m : List ℕ) (z : List ℤ) : Type 0 where
+  pub long : length z ≡ 64
   pub first : Rounds (entry f 0) (get_or m 0 0) (entry z 0)
   pub others : (k : ℕ) → 0 < k → k < 64 → IsNearest (entry f k) (get_or m k 0) fewest most (entry z (get_or zigzag k 0))
   pub small : All (λ v. unsigned_abs v ≤ 580) z
