@@ -179,3 +179,7 @@ made_full from values made place below =
     let here = made b stands.is (place_below from.geom.now b stands.is) in
     let P : ℕ → Type 0 = λ n. 0 < length (get_or values n []) in
     subst P stands.at (omega (arith, here.long))
+
+pub length-six : (ramps : Ramps) (qi : ℕ) → length (matrices_of ramps qi) ≡ 6
+unfolding matrices_of
+length-six ramps qi = refl

@@ -86,6 +86,6 @@ pub fn nearest_values(
         vectors,
         matrices: &matrices,
     };
-    sources.fill(&mut into.values);
+    sources.fill(into);
     limit_dc(geom, flags, kinds, into);
 }

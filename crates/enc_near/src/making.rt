@@ -18,6 +18,7 @@ use crate::lacking::lacking;
 use crate::sources::Sources;
 use thr_dct::forward;
 use thr_recon::{Predictor, predict};
+use thr_token::Coeffs;
 use vid_base::Shape;
 use vid_geom::Block;
 use vid_plane::Plane;
@@ -159,13 +160,23 @@ impl Sources<'_> {
         coefficients(&self.wanted(block, place), self.matrix(block, place))
     }
 
-    /// Makes the coefficients of all blocks, with DC values that are not near their predictors yet.
-    pub(crate) fn fill(&self, values: &mut [[i16; 64]])
+    // Makes the coefficients of all blocks.
+    fn fill_values(&self, values: &mut [[i16; 64]])
         requires { length values.old ≡ length (order_of self.now.geom.now) }
         ensures { AreMadeBefore self.now (length (order_of self.now.geom.now)) values.new }
     {
         for place in 0..self.geom.blocks() {
             values[place as usize] = self.values(place);
         }
+    }
+
+    /// Makes the coefficients of all blocks, with DC values that are not near their predictors yet.
+    pub(crate) fn fill(&self, into: &mut Coeffs)
+        requires { length into.old.values.items ≡ length (order_of self.now.geom.now) }
+        ensures made { AreMadeBefore self.now (length (order_of self.now.geom.now)) into.new.values.items }
+        ensures sized { length into.new.values.items ≡ length (order_of self.now.geom.now) }
+        ensures counts { into.new.counts.items ≡ into.old.counts.items }
+    {
+        self.fill_values(&mut into.values);
     }
 }

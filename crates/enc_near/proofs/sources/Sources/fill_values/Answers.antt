@@ -1,6 +1,6 @@
 use Rattle.std.proofs.Common.{◌∙◌, arith, length-set}
 use Rattle.enc_near.proofs.MakingLemmas.{block_made}
-use Rattle.enc_near.proofs.sources.Sources.fill.Goals as goal
+use Rattle.enc_near.proofs.sources.Sources.fill_values.Goals as goal
 
 pub loop-place-preserved : goal.loop-place-preserved
 loop-place-preserved c =
