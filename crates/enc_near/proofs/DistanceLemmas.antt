@@ -52,8 +52,8 @@ quotient_nearest f c d q r =
     by_lt_z c d
     (λ h. let jump = product_jumps c d q (omega (arith, ints, h)) in closer x y q half minus_half (inl (omega (arith, ints, jump))))
     (λ h. by_lt_z d c
-        (λ k. let jump = product_jumps d c q (omega (arith, ints, k)) in closer x y q half minus_half (inr (omega (arith, ints, jump))))
-        (λ k. let same : c ≡ d = omega (arith, ints, h, k) in rw same (omega arith)))
+    (λ k. let jump = product_jumps d c q (omega (arith, ints, k)) in closer x y q half minus_half (inr (omega (arith, ints, jump))))
+    (λ k. let same : c ≡ d = omega (arith, ints, h, k) in rw same (omega arith)))
 
 -- numbers on one side of 0
 farther_below : (x y : ℤ) → x ≤ℤ pos 0 → y ≤ℤ x → unsigned_abs x ≤ unsigned_abs y
@@ -102,16 +102,16 @@ quotient_small f c q within h r =
     by_lt_z (pos 510) c
     (λ above. (let more = product_grows (pos 511) c q (omega (arith, ints, above)) in let product = product_is (pos 511) (pos q) in absurd (omega (arith, ints, more, product, r.low, within.high))))
     (λ low. by_lt_z c (negsuc 509)
-        (λ below. (let more = product_grows c (negsuc 510) q (omega (arith, ints, below)) in let product = product_is (negsuc 510) (pos q) in absurd (omega (arith, ints, more, product, r.high, within.low))))
-        (λ high. omega (arith, ints, low, high)))
+    (λ below. (let more = product_grows c (negsuc 510) q (omega (arith, ints, below)) in let product = product_is (negsuc 510) (pos q) in absurd (omega (arith, ints, more, product, r.high, within.low))))
+    (λ high. omega (arith, ints, low, high)))
 
 -- kept near a predictor it is nearest of the numbers there
 pub kept_nearest : (f v p : ℤ) (q : ℕ) → Rounds f q v → IsNearest f q (p -ℤ most) (p +ℤ most) (nearest v p)
 kept_nearest f v p q r = by_lt_z v (p -ℤ pos 580)
     (λ h. (let e : nearest v p ≡ p -ℤ pos 580 = omega (arith, ints, clamps, h) in
-        rw e (record { least = λ d a b. least_nearest f v (p -ℤ pos 580) d q r (omega (arith, ints, h)) a })))
+    rw e (record { least = λ d a b. least_nearest f v (p -ℤ pos 580) d q r (omega (arith, ints, h)) a })))
     (λ g. by_lt_z (p +ℤ pos 580) v
-        (λ h. (let e : nearest v p ≡ p +ℤ pos 580 = omega (arith, ints, clamps, h) in
-            rw e (record { least = λ d a b. greatest_nearest f v (p +ℤ pos 580) d q r (omega (arith, ints, h)) b })))
-        (λ h. (let e : nearest v p ≡ v = omega (arith, ints, clamps, g, h) in
-            rw e (record { least = λ d a b. quotient_nearest f v d q r }))))
+    (λ h. (let e : nearest v p ≡ p +ℤ pos 580 = omega (arith, ints, clamps, h) in
+    rw e (record { least = λ d a b. greatest_nearest f v (p +ℤ pos 580) d q r (omega (arith, ints, h)) b })))
+    (λ h. (let e : nearest v p ≡ v = omega (arith, ints, clamps, g, h) in
+    rw e (record { least = λ d a b. quotient_nearest f v d q r }))))

@@ -27,7 +27,7 @@ unfolding lacking sample
 lacking_is f g a b out e h long done =
     fill_by_all (λ k. pos (f (k % 8) (k / 8)) -ℤ pos (g (k % 8) (k / 8))) out 64 (pos 0) long
     (λ k below. done k below ∙ ap (λ (l : List (List ℕ)). pos (sample l k) -ℤ pos (sample b k)) e ∙ ap (λ (l : List (List ℕ)). pos (sample (block_of f) k) -ℤ pos (sample l k)) h
-        ∙ ap (λ n. pos n -ℤ pos (sample (block_of g) k)) (sample_is f k below) ∙ ap (λ n. pos (f (k % 8) (k / 8)) -ℤ pos n) (sample_is g k below))
+    ∙ ap (λ n. pos n -ℤ pos (sample (block_of g) k)) (sample_is f k below) ∙ ap (λ n. pos (f (k % 8) (k / 8)) -ℤ pos n) (sample_is g k below))
 
 -- the samples less the predicted ones
 abbrev difference_at : List (List ℕ) → List (List ℕ) → ℕ → ℤ

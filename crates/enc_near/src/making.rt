@@ -86,11 +86,7 @@ impl Sources<'_> {
         requires { IsBlock self.now.geom.now block }
         ensures { result ≡ block_of (block_samples self.now.target.now block) }
     {
-        rows(
-            self.target_plane(block.pli),
-            8 * block.col,
-            8 * block.row,
-        )
+        rows(self.target_plane(block.pli), 8 * block.col, 8 * block.row)
     }
 
     // The plane that a kind of block is predicted from.
