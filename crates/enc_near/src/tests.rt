@@ -1,4 +1,7 @@
-ghost use Rattle.std.specs.Prelude.{IfOk};
+ghost use Rattle.std.specs.Prelude.{◌≡◌, IfOk, length, replicate, true};
+ghost use Rattle.vid_geom.specs.CodedOrder.{order_of};
+ghost use Rattle.vid_geom.specs.MacroBlocks.{macro_blocks};
+ghost use Rattle.thr_frame.specs.CodedFrame.{kinds_of};
 ghost use Rattle.vid_plane.specs.Picture.{IsLike};
 ghost use Rattle.vid_plane.specs.Frames.{IsFrameOf};
 ghost use Rattle.thr_frame.specs.Painted.{AreSealed};
@@ -7,7 +10,7 @@ use crate::nearest_values;
 use std::alloc::Global;
 use std::process::Abort;
 use thr_frame::fill_kinds;
-use thr_setup::import_setup;
+use thr_setup::{Setup, import_setup};
 use thr_token::Coeffs;
 use vid_base::{NoMem, Shape, Vector};
 use vid_geom::Geom;
@@ -59,36 +62,83 @@ struct Case {
     qi: u8,
 }
 
+/// The lists of a frame of which all blocks are coded in one mode, without motion.
+#[derive(Drop)]
+struct Lists {
+    flags: Vec<bool>,
+    kinds: Vec<u8>,
+    modes: Vec<u8>,
+    vectors: Vec<Vector>,
+}
+
+fn make_lists(alloc: Global, geom: &Geom, mode: u8) -> Result<Lists, NoMem>
+    ensures flags { IfOk result (λ l. l.flags.items ≡ replicate (length (order_of geom.now)) true) }
+    ensures kinds { IfOk result (λ l. l.kinds.items ≡ kinds_of geom.now l.modes.items) }
+    ensures modes { IfOk result (λ l. length l.modes.items ≡ length (macro_blocks geom.now)) }
+    ensures vectors { IfOk result (λ l. length l.vectors.items ≡ length (order_of geom.now)) }
+{
+    let blocks = geom.blocks() as usize;
+    let flags = vec![in alloc; true; blocks]?;
+    let modes = vec![in alloc; mode; geom.macro_blocks() as usize]?;
+    let vectors = vec![in alloc; Vector { x: 0, y: 0 }; blocks]?;
+    let mut kinds = vec![in alloc; 0; blocks]?;
+    fill_kinds(geom, &modes, &mut kinds);
+    Ok(Lists {
+        flags,
+        kinds,
+        modes,
+        vectors,
+    })
+}
+
+fn room(alloc: Global, geom: &Geom) -> Result<Coeffs, NoMem>
+    ensures { IfOk result (λ coeffs. length coeffs.values.items ≡ length (order_of geom.now)) }
+{
+    let mut coeffs = Coeffs::new(alloc);
+    coeffs.values = vec![in alloc; [0; 64]; geom.blocks() as usize]?;
+    Ok(coeffs)
+}
+
+/// The frames of a case.
+#[derive(Drop)]
+struct Frames {
+    target: Frame,
+    prev: Frame,
+    golden: Frame,
+}
+
+fn draw_all(alloc: Global, shape: Shape, case: &Case) -> Result<Frames, NoMem>
+    ensures target { IfOk result (λ f. IsFrameOf shape f.target) }
+    ensures prev { IfOk result (λ f. IsFrameOf shape f.prev × AreSealed f.prev) }
+    ensures golden { IfOk result (λ f. IsFrameOf shape f.golden × AreSealed f.golden) }
+{
+    Ok(Frames {
+        target: drawn(alloc, shape, case.target)?,
+        prev: drawn(alloc, shape, case.prev)?,
+        golden: drawn(alloc, shape, case.golden)?,
+    })
+}
+
 // The coefficients of the blocks, those of luma first.
-fn made(alloc: Global, case: &Case) -> Result<Coeffs, NoMem> {
+fn made(alloc: Global, setup: &Setup, case: &Case) -> Result<Coeffs, NoMem> {
     let Some(shape) = Shape::new(1, 1, 0) else {
         return Err(NoMem);
     };
-    let qi = case.qi.min(63);
     let geom = Geom::new(alloc, shape)?;
-    let setup = import_setup(alloc)?;
-    let target = drawn(alloc, shape, case.target)?;
-    let prev = drawn(alloc, shape, case.prev)?;
-    let golden = drawn(alloc, shape, case.golden)?;
-    let blocks = geom.blocks() as usize;
-    let flags = vec![in alloc; true; blocks]?;
-    let modes = vec![in alloc; case.mode; geom.macro_blocks() as usize]?;
-    let vectors = vec![in alloc; Vector { x: 0, y: 0 }; blocks]?;
-    let mut kinds = vec![in alloc; 0; blocks]?;
-    fill_kinds(&geom, &modes, &mut kinds);
-    let mut coeffs = Coeffs::new(alloc);
-    coeffs.values.resize(blocks, [0; 64])?;
+    let frames = draw_all(alloc, geom.shape(), case)?;
+    let lists = make_lists(alloc, &geom, case.mode)?;
+    let mut coeffs = room(alloc, &geom)?;
     nearest_values(
         &geom,
-        &setup,
-        &target,
-        &prev,
-        &golden,
-        qi,
-        &flags,
-        &kinds,
-        &modes,
-        &vectors,
+        setup,
+        &frames.target,
+        &frames.prev,
+        &frames.golden,
+        case.qi.min(63),
+        &lists.flags,
+        &lists.kinds,
+        &lists.modes,
+        &lists.vectors,
         &mut coeffs,
     );
     Ok(coeffs)
@@ -161,8 +211,9 @@ const EVEN: [(Case, i16); 6] = [
 
 #[test]
 fn what_is_lacking_by_one_number_everywhere_is_coded_by_its_dc_value(rt: HostRuntime) {
+    let setup = import_setup(rt.alloc()).expect(&rt, "no memory");
     for (case, dc) in &EVEN {
-        let coeffs = made(rt.alloc(), case).expect(&rt, "no memory");
+        let coeffs = made(rt.alloc(), &setup, case).expect(&rt, "no memory");
         let mut luma = [0; 64];
         luma[0] = *dc;
         assert!(rt;
@@ -189,6 +240,7 @@ fn a_ramp_has_the_coefficients_of_its_transform_in_zigzag_order(rt: HostRuntime)
         mode: 1,
         qi: 63,
     };
-    let coeffs = made(rt.alloc(), &case).expect(&rt, "no memory");
+    let setup = import_setup(rt.alloc()).expect(&rt, "no memory");
+    let coeffs = made(rt.alloc(), &setup, &case).expect(&rt, "no memory");
     assert!(rt; coeffs.values.as_slice() == [RAMP, RAMP, RAMP, RAMP, [0; 64], [0; 64]].as_slice());
 }
