@@ -1,5 +1,5 @@
 -- The coefficients of a block, made one after another in zigzag order. `coefficients` cites these.
-use Rattle.std.proofs.Common.{◌≡◌, ◌∙◌, ℕ, ℤ, pos, ◌+◌, ◌<◌, ◌≤◌, unsigned_abs, List, length, get_or, set, replicate, inl, inr, ap, sym, subst, refl, arith, length-set}
+use Rattle.std.proofs.Common.{◌≡◌, ◌∙◌, ℕ, ℤ, pos, ◌+◌, ◌<◌, ◌≤◌, unsigned_abs, List, length, get_or, set, replicate, inl, inr, subst, refl, arith, length-set}
 use Rattle.std.specs.List.{All}
 use Rattle.std.proofs.lemmas.Bool.{cases_lt}
 use Rattle.std.proofs.lemmas.List.{get_or-set_same, get_or-set_other}

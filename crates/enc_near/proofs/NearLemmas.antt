@@ -22,11 +22,11 @@ use Rattle.thr_dct.specs.Forward.{forward_of}
 use Rattle.thr_dct.specs.Line.{entry}
 use Rattle.thr_recon.specs.Residual.{zigzag}
 use Rattle.thr_frame.specs.CodedFrame.{CodedFrame, intra_mode, kind_of, kinds_of}
-use Rattle.thr_frame.specs.Rebuilt.{Pair, matrix_kind, mode_at, predictor_at}
+use Rattle.thr_frame.specs.Rebuilt.{matrix_kind, mode_at, predictor_at}
 use Rattle.enc_search.specs.Searched.{Samples, block_samples}
 use Rattle.enc_near.specs.declared.sources.Sources.{Sources}
 use Rattle.enc_near.specs.Made.{AreEntries, AreMade, matrices_of, matrix_place, samples_by}
-use Rattle.enc_near.specs.Near.{IsNearBlock, IsNearFrame, IsNearest, apart, block_matrix, coefficient, dc_predictor, fewest, lacking, most, prediction, wanted}
+use Rattle.enc_near.specs.Near.{IsNearBlock, IsNearFrame, IsNearest, block_matrix, coefficient, dc_predictor, fewest, lacking, most, prediction, wanted}
 use Rattle.enc_near.specs.Sources.{AreMadeBefore, kind_at, matrix_by, refs_of, wanted_by}
 use Rattle.enc_near.proofs.DcLemmas.{AreKept, all_coded, kept_near}
 use Rattle.enc_near.proofs.DistanceLemmas.{kept_nearest}
@@ -179,7 +179,3 @@ made_full from values made place below =
     let here = made b stands.is (place_below from.geom.now b stands.is) in
     let P : ℕ → Type 0 = λ n. 0 < length (get_or values n []) in
     subst P stands.at (omega (arith, here.long))
-
-pub length-six : (ramps : Ramps) (qi : ℕ) → length (matrices_of ramps qi) ≡ 6
-unfolding matrices_of
-length-six ramps qi = refl

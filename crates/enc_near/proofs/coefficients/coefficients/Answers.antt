@@ -1,8 +1,7 @@
-use Rattle.std.proofs.Common.{◌≡◌, ◌<◌, length, get_or, pos, to_z, of_z, rules, arith}
+use Rattle.std.proofs.Common.{rules, arith}
 use Rattle.std.specs.Int.{w16, w32}
-use Rattle.std.proofs.lemmas.Int.{ints, to_z-of_z}
-use Rattle.std.proofs.lemmas.List.Elements.{All-get_or}
-use Rattle.thr_dct.specs.Line.{Within, entry}
+use Rattle.std.proofs.lemmas.Int.{to_z-of_z}
+use Rattle.thr_dct.specs.Line.{entry}
 use Rattle.enc_near.proofs.CoefficientLemmas.{all_made, more_made, one_made}
 use Rattle.enc_near.proofs.coefficients.coefficients.Goals as goal
 use mir.Val.{SFits}

@@ -1,4 +1,4 @@
-use Rattle.std.proofs.Common.{◌∙◌, ◌≡◌, get_or, arith}
+use Rattle.std.proofs.Common.{◌≡◌, get_or}
 use Rattle.enc_near.specs.Made.{natural}
 use Rattle.enc_near.proofs.ZigzagLemmas.{natural_below}
 use Rattle.enc_near.proofs.coefficients.natural.Goals as goal

@@ -1,12 +1,10 @@
-use Rattle.std.proofs.Common.{◌≡◌, ◌∙◌, ◌∷◌, [], length, map, sym, ap, arith}
-use Rattle.vid_geom.specs.CodedOrder.{order_of}
+use Rattle.std.proofs.Common.{◌∙◌, length, ap}
 use Rattle.thr_setup.specs.Setup.{contents}
 use Rattle.thr_dc.specs.Frames.{with_planes}
 use Rattle.thr_dc.specs.Prediction.{applied}
 use Rattle.thr_dc.proofs.OrderedLemmas.{all_within, still_bounded}
-use Rattle.enc_near.specs.Made.{matrices_of}
 use Rattle.enc_near.proofs.DcLemmas.{planes_change}
-use Rattle.enc_near.proofs.NearLemmas.{frame_near, length-kinds, length-six, made_full, made_small}
+use Rattle.enc_near.proofs.NearLemmas.{frame_near, length-kinds, made_full, made_small}
 use Rattle.enc_near.proofs.frame.nearest_values.Goals as goal
 
 pub invariant_of-sources-clause-kinds_sized : goal.invariant_of-sources-clause-kinds_sized

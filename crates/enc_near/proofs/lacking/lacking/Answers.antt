@@ -1,4 +1,4 @@
-use Rattle.std.proofs.Common.{to_z, of_z, arith}
+use Rattle.std.proofs.Common.{arith}
 use Rattle.std.specs.Int.{w16}
 use Rattle.std.proofs.lemmas.Int.{to_z-of_z}
 use Rattle.enc_near.proofs.LackingLemmas.{all_differences, more_differences, no_difference}

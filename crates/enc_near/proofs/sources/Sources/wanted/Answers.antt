@@ -1,12 +1,11 @@
-use Rattle.std.proofs.Common.{◌≡◌, ◌∙◌, ℕ, get_or, map, ap}
+use Rattle.std.proofs.Common.{◌∙◌, ℕ, get_or, map, ap}
 use Rattle.vid_geom.specs.CodedOrder.{place_of}
 use Rattle.thr_dct.specs.Forward.{forward_of}
 use Rattle.thr_modes.specs.Vectors.{offset_of, still}
 use Rattle.thr_recon.specs.Rebuilt.{block_of}
 use Rattle.enc_search.specs.Searched.{Samples, block_samples}
 use Rattle.enc_near.specs.Made.{samples_by}
-use Rattle.enc_near.specs.Near.{lacking}
-use Rattle.enc_near.specs.Sources.{kind_at, refs_of, wanted_by}
+use Rattle.enc_near.specs.Sources.{refs_of, wanted_by}
 use Rattle.enc_near.proofs.sources.Sources.wanted.Goals as goal
 
 pub returns-clause-value : goal.returns-clause-value
