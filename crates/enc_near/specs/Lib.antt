@@ -1,0 +1,4 @@
+pub mod Near
+pub mod Rounds
+pub mod Made
+pub mod Sources
