@@ -7,3 +7,4 @@ mod CauseLemmas
 mod CheckLemmas
 mod SayingLemmas
 mod ExportLemmas
+pub mod MakeLemmas

@@ -40,9 +40,9 @@ fn decimal(digits: &[u8]) -> Option<u32>
     Some(value as u32)
 }
 
-/// The number that a field says.
+/// The number that a field says: decimal digits without a leading zero but `0` itself, at most 2,147,483,647.
 #[tactic(auto, unfolding(crate::specs::Numbers::number_of))]
-pub(crate) fn read_number(field: &[u8]) -> Option<u32>
+pub fn read_number(field: &[u8]) -> Option<u32>
     ensures value { result ≡ number_of field.now }
 {
     if is_numeral(field) {
