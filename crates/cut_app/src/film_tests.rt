@@ -11,7 +11,11 @@ fn a_film_says_how_many_pictures_and_how_many_bytes_it_has(rt: HostRuntime) {
         ("3", 1211, "made 3 bytes 1211\n"),
     ] {
         let mut desk = MemDesk::new(rt.alloc());
-        let end = oggcut(rt.alloc(), &["make", "0", frames, "16", "16", "A"], &mut desk);
+        let end = oggcut(
+            rt.alloc(),
+            &["make", "0", frames, "16", "16", "A"],
+            &mut desk,
+        );
         assert_eq!(rt; end.number(), 0, "{line}");
         assert!(rt; desk.said() == line.as_bytes(), "{line}");
         let text = desk.output("A").unwrap_or(&[]);
@@ -40,7 +44,11 @@ fn the_numbers_of_a_film_are_within_their_limits(rt: HostRuntime) {
         let mut desk = MemDesk::new(rt.alloc());
         let end = oggcut(rt.alloc(), &["make", start, frames, w, h, "A"], &mut desk);
         assert_eq!(rt; end.number(), status, "{start} {frames} {w} {h}");
-        assert_eq!(rt; desk.output("A").is_some(), status == 0, "{start} {frames} {w} {h}");
+        assert_eq!(rt;
+            desk.output("A").is_some(),
+            status == 0,
+            "{start} {frames} {w} {h}"
+        );
     }
 }
 

@@ -1,12 +1,13 @@
 -- Pictures of a film one after another, their sizes, and the text that they make. The calls of `maker` and `making` cite these.
-use Rattle.std.proofs.Common.{◌≡◌, ◌∙◌, ℕ, ◌+◌, ◌*◌, ◌/◌, ◌^◌, ◌<◌, ◌≤◌, List, [], ◌∷◌, ◌++◌, length, map, take, drop, refl, ap, sym, subst, arith, zero-add, append_assoc, length-append}
+use Rattle.std.proofs.Common.{◌≡◌, ◌∙◌, ℕ, ◌+◌, ◌*◌, ◌/◌, ◌^◌, ◌≤◌, List, [], ◌∷◌, ◌++◌, length, map, take, drop, refl, ap, sym, arith, zero-add, length-append, lit≤}
 use Rattle.std.specs.List.{flat_map, range_with_len}
 use Rattle.std.proofs.lemmas.Grind.{flat_map-append}
 use Rattle.std.proofs.lemmas.List.{append-nil, take-append-drop}
 use Rattle.std.proofs.lemmas.List.FromFn.{map-range_with_len_more, take-map-range_with_len}
 use Rattle.std.proofs.lemmas.Nat.{mul-le}
 use Rattle.y4m_io.specs.Generator.{generated, generated_frames, generated_head}
-use Rattle.y4m_io.specs.Pictures.{IsPicture, IsPictureOf, IsSize, Samples, chroma_columns, chroma_rows, samples_of}
+use Rattle.y4m_io.specs.declared.picture.Picture.{Picture}
+use Rattle.y4m_io.specs.Pictures.{IsPicture, IsSize, Samples, samples_of}
 use Rattle.y4m_io.specs.Y4m.{frame_text, head_text, y4m_of}
 use Rattle.y4m_io.proofs.PictureLemmas.{chroma_most, luma_most}
 use Rattle.cut_make.specs.declared.film.Film.{Film}
@@ -21,24 +22,24 @@ film_size film is =
     let most : ((film.w + 15) / 16) * ((film.h + 15) / 16) ≤ 64 * 64 = mul-le ((film.w + 15) / 16) ((film.h + 15) / 16) 64 64 across up in
     record { wide = is.wide; high = is.high; small = omega (arith, most); format = (lit≤ tt, λ e. cc) }
 
--- the size of a generated picture
-pub frame_width : (film : Film) (n : ℕ) → (frame_of film n).w ≡ film.w
-unfolding generated
-frame_width film n = refl
-
-pub frame_height : (film : Film) (n : ℕ) → (frame_of film n).h ≡ film.h
-unfolding generated
-frame_height film n = refl
-
-pub frame_format : (film : Film) (n : ℕ) → (frame_of film n).pf ≡ 0
-unfolding generated
-frame_format film n = refl
-
 -- how many bytes a frame has at most
 pub frame_most : (p : Samples) → IsPicture p → length (frame_text p) ≤ 2 ^ 27
 unfolding frame_text
 frame_most p is =
-    omega (arith, simp length-append at (ap length (refl {x = frame_text p})), is.whole.y, is.whole.cb, is.whole.cr, luma_most p.w p.h p.pf is.size, chroma_most p.w p.h p.pf is.size)
+    simp length-append (omega (arith, is.whole.y, is.whole.cb, is.whole.cr, luma_most p.w p.h p.pf is.size, chroma_most p.w p.h p.pf is.size))
+
+-- a picture that was made has the size of the film
+pub shown_width : (p : Picture) (start n w h : ℕ) → samples_of p ≡ generated start n w h → p.w ≡ w
+unfolding generated
+shown_width p start n w h is = ap {A = Samples} (λ s. s.w) is
+
+pub shown_height : (p : Picture) (start n w h : ℕ) → samples_of p ≡ generated start n w h → p.h ≡ h
+unfolding generated
+shown_height p start n w h is = ap {A = Samples} (λ s. s.h) is
+
+pub shown_format : (p : Picture) (start n w h : ℕ) → samples_of p ≡ generated start n w h → p.pf ≡ 0
+unfolding generated
+shown_format p start n w h is = ap {A = Samples} (λ s. s.pf) is
 
 -- one picture more
 pub frames_more : (film : Film) (n : ℕ) → frames_text film (n + 1) ≡ frames_text film n ++ frame_text (frame_of film n)
@@ -54,7 +55,7 @@ frames_begin film n m below =
     let rest : List Samples = drop n all in (
       flat_map frame_text rest,
       ap (flat_map frame_text) (sym (take-append-drop n all)) ∙ flat_map-append frame_text (take n all) rest
-      ∙ ap (λ (ps : List Samples). flat_map frame_text ps ++ flat_map frame_text rest) (take-map-range_with_len (frame_of film) 0 m n below),
+          ∙ ap (λ (ps : List Samples). flat_map frame_text ps ++ flat_map frame_text rest) (take-map-range_with_len (frame_of film) 0 m n below),
     )
 
 -- a film is its head and all its pictures

@@ -1,14 +1,13 @@
 -- First parts of a text that come to an output. The calls of `maker` and `making` cite these.
-use Rattle.std.proofs.Common.{◌≡◌, ◌∙◌, ℕ, ◌≤◌, List, [], ◌∷◌, ◌++◌, Option, Ok, Err, inl, inr, ap, sym, append_assoc, refl}
-use Rattle.std.specs.Prelude.{Result, ◌⊎◌}
+use Rattle.std.proofs.Common.{◌≡◌, ◌∙◌, ℕ, ◌≤◌, List, [], ◌++◌, Ok, Err, inl, inr, ap, sym, append_assoc, refl, arith}
 use Rattle.std.specs.Result.{IsErrOf}
 use Rattle.vid_desk.specs.Meaning.{Appends, Creates, HasCause, Meaning, Rose, with_last}
 use Rattle.vid_desk.specs.declared.fault.DeskFault.{DeskFault}
 use Rattle.vid_desk.specs.declared.fault.DeskFault.TheVariants.{Failed, NoMem as NoRoom}
 use Rattle.cut_report.specs.declared.status.Status.{Status}
-use Rattle.cut_report.specs.declared.status.Status.TheVariants.{NoMem, WriteFault}
+use Rattle.cut_report.specs.declared.status.Status.TheVariants.{WriteFault}
 use Rattle.cut_desk.specs.Making.{Adds, IsMaking}
-use Rattle.cut_desk.specs.Outputs.{Makes, Makings}
+use Rattle.cut_desk.specs.Outputs.{Makings}
 use Rattle.cut_desk.specs.Statuses.{writing_status}
 use Rattle.cut_desk.proofs.MakingLemmas.{adds_none, adds_twice, making_more, makes_of}
 use Rattle.cut_make.specs.Films.{MakesPart}
@@ -17,7 +16,7 @@ use Rattle.cut_make.specs.Statuses.{IsWriting}
 
 -- nothing of it came
 pub part_none : (m : Meaning) (id : ℕ) (text : List ℕ) → AddsPart m m id text
-part_none m id text = ([], text, refl, adds_none m m id refl (omega))
+part_none m id text = ([], text, refl, adds_none m m id refl (omega arith))
 
 -- what an append left
 pub part_of : (old new : Meaning) (id : ℕ) (piece : List ℕ) (fault : DeskFault) → Appends old new id piece (Err fault) → old.write_faults ≤ new.write_faults → AddsPart old new id piece

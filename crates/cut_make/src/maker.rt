@@ -78,7 +78,12 @@ impl Maker {
     }
 
     /// Appends picture n of the film, and gives the number of its bytes.
-    pub(crate) fn add_frame<D: Desk>(&mut self, desk: &mut D, id: u32, n: u32) -> Result<u64, Status>
+    pub(crate) fn add_frame<D: Desk>(
+        &mut self,
+        desk: &mut D,
+        id: u32,
+        n: u32,
+    ) -> Result<u64, Status>
         requires id { id < (D.sees desk.old).made }
         requires maker { IsMaker self.old }
         ensures added { OnOk result (Adds (D.sees desk.old) (D.sees desk.new) id (frame_text (frame_of self.old.film n))) }

@@ -1,5 +1,5 @@
 // A film, written to a new output (own).
-ghost use Rattle.std.specs.Prelude.{◌≡◌, ◌+◌, ◌^◌, ◌<◌, ◌≤◌, length, IfErr, IfOk, IsErrOf, OnErr, OnOk};
+ghost use Rattle.std.specs.Prelude.{◌≡◌, ◌+◌, ◌*◌, ◌^◌, ◌<◌, ◌≤◌, length, IfErr, IfOk, IsErrOf, OnErr, OnOk};
 ghost use Rattle.vid_desk.specs.Meaning.{Rose};
 ghost use Rattle.cut_desk.specs.Making.{Adds};
 ghost use Rattle.cut_desk.specs.Outputs.{Makes, Makings};

@@ -34,7 +34,9 @@ fn the_samples_of_a_film_are_those_of_its_slopes(rt: HostRuntime) {
     let text = desk.output("A").unwrap_or(&[]);
     assert_eq!(rt; text.len(), 431);
     part(&rt, text, 0, FRONT.as_bytes());
-    let luma: [u8; 16] = [32, 33, 34, 35, 36, 37, 38, 39, 40, 41, 42, 43, 44, 45, 46, 47];
+    let luma: [u8; 16] = [
+        32, 33, 34, 35, 36, 37, 38, 39, 40, 41, 42, 43, 44, 45, 46, 47,
+    ];
     part(&rt, text, 47, &luma);
     part(&rt, text, 302, &[62]);
     part(&rt, text, 303, &[96, 97, 98, 99, 100, 101, 102, 103]);
