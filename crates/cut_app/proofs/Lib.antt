@@ -7,4 +7,3 @@ mod CauseLemmas
 mod CheckLemmas
 mod SayingLemmas
 mod ExportLemmas
-pub mod MakeLemmas

@@ -34,7 +34,7 @@ fn tell<D: Desk>(desk: &mut D, status: Status) -> Status
 
 // Does a command.
 fn run<D: Desk>(alloc: Global, desk: &mut D, command: Command) -> Result<(), Status>
-    requires { IsWithinLimits (form_view command.entry) }
+    requires { IsWithinLimits (form_view command) }
     ensures caused { ToldFiles (D.sees desk.old) (λ files. FormCaused (form_view command.entry) files (status_in result)) }
     ensures written { OnOk result (ToldFiles (D.sees desk.old) (λ files. WrittenBy (D.sees desk.old) (D.sees desk.new) (Some (form_view command.entry)) files)) }
     ensures outputs { MakesOnly (D.sees desk.old) (D.sees desk.new) (Some (form_view command.entry)) }
