@@ -14,9 +14,11 @@ use Rattle.cut_app.proofs.PlanCauseLemmas.{one_of_plan}
 use Rattle.cut_report.specs.declared.status.Status.{Status}
 use Rattle.cut_report.specs.declared.status.Status.TheVariants.{Done, Usage, NoFile, BadSource, BadList, Range, ReadFault, WriteFault, NoMem, BadY4m, TooLong, SameName, Changed, InPointNotKey, NotYet}
 use Rattle.cut_app.specs.Forms.{Form}
-use Rattle.cut_app.specs.Forms.Form.{Checking, Cutting, Exporting, Planning}
+use Rattle.cut_app.specs.Forms.Form.{Checking, Cutting, Exporting, Making, Planning}
 use Rattle.cut_app.specs.Exports.{Export, LeavesUntil, is_same}
 use Rattle.cut_app.specs.Found.{IsFound}
+use Rattle.cut_make.specs.Statuses.{IsWriting}
+use Rattle.cut_app.specs.Makes.{MakeCaused}
 use Rattle.cut_app.specs.Causes.{CausedBy, CheckCaused, ExportCaused, FormCaused, IsOnly, one_source, source_input, what_of}
 use Rattle.cut_app.specs.Commands.{Completes, CreatesWhenGiven, IsGivenAll, LeavesBy, Tells}
 
@@ -136,9 +138,26 @@ one_of_export export files a b x y = elim (parts_of export files a x) [
   ]
 ]
 
+-- making a film is done, or ends so that no input is the cause of it
+make_outside : (status : Status) → IsWriting status → IsOutside status
+make_outside status broke = elim broke [
+  | inl failed ↦ rw failed tt
+  | inr none ↦ rw none tt
+]
+
+one_of_make : (a b : Status) → MakeCaused a → MakeCaused b → IsOutside a ⊎ (IsOutside b ⊎ (a ≡ b))
+one_of_make a b x y = elim x [
+  | inl done ↦ elim y [
+    | inl also ↦ inr (inr (done ∙ sym also))
+    | inr broke ↦ inr (inl (make_outside b broke))
+  ]
+  | inr broke ↦ inl (make_outside a broke)
+]
+
 one_of_form : (form : Form) (files : List File) (a b : Status) → FormCaused form files a → FormCaused form files b → IsOutside a ⊎ (IsOutside b ⊎ (a ≡ b))
 one_of_form (Checking file) files a b x y = one_of_check file files a b x y
 one_of_form (Exporting export) files a b x y = one_of_export export files a b x y
+one_of_form (Making make) files a b x y = one_of_make a b x y
 one_of_form (Planning plan) files a b x y = one_of_plan plan files a b x y
 one_of_form (Cutting cut) files a b x y = one_of_cut cut files a b x y
 
@@ -178,6 +197,7 @@ created_told old mid new (Exporting export) files kept created = elim created [
   | inl left ↦ inl (left_told old mid new kept left)
   | inr given ↦ inr given
 ]
+created_told old mid new (Making make) files kept given = tt
 created_told old mid new (Planning plan) files kept left = left_told old mid new kept left
 created_told old mid new (Cutting cut) files kept created = elim created [
   | inl left ↦ inl (left_told old mid new kept left)
@@ -222,6 +242,7 @@ left_until old mid new NotYet kept left = left_told old mid new kept left
 left_by : (old mid new : Meaning) (form : Form) (status : Status) → new ≡ record mid { said = new.said; write_faults = new.write_faults } → LeavesBy (Some form) status old mid → LeavesBy (Some form) status old new
 left_by old mid new (Checking file) status kept left = left_at old mid new status kept left
 left_by old mid new (Exporting export) status kept left = left_until old mid new status kept left
+left_by old mid new (Making make) status kept left = left_at old mid new status kept left
 left_by old mid new (Planning plan) status kept left = left_at old mid new status kept left
 left_by old mid new (Cutting cut) status kept left = left_at old mid new status kept left
 
@@ -229,6 +250,7 @@ left_by old mid new (Cutting cut) status kept left = left_at old mid new status 
 no_memory : (old new : Meaning) (form : Form) → LeavesBy (Some form) NoMem old new
 no_memory old new (Checking file) = tt
 no_memory old new (Exporting export) = tt
+no_memory old new (Making make) = tt
 no_memory old new (Planning plan) = tt
 no_memory old new (Cutting cut) = tt
 
@@ -241,6 +263,7 @@ before_told old mid new form status told kept tells left = elim tells [
 pub before_done : (old new : Meaning) (form : Form) → LeavesBy (Some form) Done old new
 before_done old new (Checking file) = tt
 before_done old new (Exporting export) = tt
+before_done old new (Making make) = tt
 before_done old new (Planning plan) = tt
 before_done old new (Cutting cut) = tt
 
@@ -267,6 +290,7 @@ calm_outside old new NotYet outside read write calm = absurd outside
 done_of : (form : Form) (files : List File) → IsGivenAll form files → FormCaused form files Done
 done_of (Checking file) files given = given
 done_of (Exporting export) files given = given
+done_of (Making make) files given = inl refl
 done_of (Planning plan) files given = given
 done_of (Cutting cut) files given = given
 

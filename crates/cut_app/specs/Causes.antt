@@ -15,9 +15,10 @@ use Rattle.cut_report.specs.declared.status.SourceWhat.TheVariants.{Packet, Page
 use Rattle.cut_report.specs.declared.status.Status.{Status}
 use Rattle.cut_report.specs.declared.status.Status.TheVariants.{Done, Usage, NoFile, BadSource, BadList, Range, ReadFault, WriteFault, NoMem, BadY4m, TooLong, SameName, Changed, InPointNotKey, NotYet}
 use Rattle.cut_app.specs.Forms.{Form}
-use Rattle.cut_app.specs.Forms.Form.{Checking, Cutting, Exporting, Planning}
+use Rattle.cut_app.specs.Forms.Form.{Checking, Cutting, Exporting, Making, Planning}
 use Rattle.cut_app.specs.Exports.{Export, is_same}
 use Rattle.cut_app.specs.Found.{IsFound}
+use Rattle.cut_app.specs.Makes.{MakeCaused}
 use Rattle.cut_app.specs.Plans.{HasRuns, IsRead, Plan, plan_over}
 
 -- the first check that fails, as a status names it
@@ -109,6 +110,7 @@ PlanCaused plan files NotYet = ⊥
 abbrev pub FormCaused : Form → List File → Status → Type 0
 FormCaused (Checking file) files status = CheckCaused file files status
 FormCaused (Exporting export) files status = ExportCaused export files status
+FormCaused (Making make) files status = MakeCaused status
 FormCaused (Planning plan) files status = PlanCaused plan files status
 FormCaused (Cutting cut) files status = Caused cut files status
 

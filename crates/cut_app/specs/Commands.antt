@@ -1,42 +1,47 @@
 -- What a command leaves, by the form of its words (own).
 use Rattle.std.specs.Prelude.{◌≡◌, ⊤, false, List, [], Option, Some, None, ◌⊎◌}
 use Rattle.vid_desk.specs.Meaning.{File, Meaning}
-use Rattle.cut_desk.specs.Outputs.{IsCalm, LeavesOutputs, MakesAtMost}
+use Rattle.cut_desk.specs.Outputs.{IsCalm, LeavesOutputs, Makes, MakesAtMost}
 use Rattle.cut_desk.specs.Statuses.{LeavesOutputsAt}
+use Rattle.cut_make.specs.Films.{MakesPart, film_text}
 use Rattle.cut_slice.specs.Cause.{IsGivenAll as CanCut, Written}
 use Rattle.cut_report.specs.declared.status.Status.{Status}
 use Rattle.cut_report.specs.declared.status.Status.TheVariants.{Done, Usage, NoFile, BadSource, BadList, Range, ReadFault, WriteFault, NoMem, BadY4m, TooLong, SameName, Changed, InPointNotKey, NotYet}
 use Rattle.cut_report.specs.Lines.{fault_text}
 use Rattle.cut_app.specs.Forms.{Form}
-use Rattle.cut_app.specs.Forms.Form.{Checking, Cutting, Exporting, Planning}
+use Rattle.cut_app.specs.Forms.Form.{Checking, Cutting, Exporting, Making, Planning}
 use Rattle.cut_app.specs.Exports.{IsExported, LeavesUntil, is_same}
 use Rattle.cut_plan.specs.declared.run.Run.{Run}
 use Rattle.cut_app.specs.Plans.{HasRuns}
 use Rattle.cut_app.specs.Causes.{IsSound}
 use Rattle.cut_app.specs.Texts.{SaysOn, SaysLine, HasSaid}
 
--- what a command that was done has written: a check and a plan write nothing, an export the pictures of its file, and a cut the
--- pages of its slice
+-- what a command that was done has written: a check and a plan write nothing, an export the pictures of its file, making a film
+-- its pictures, and a cut the pages of its slice
 abbrev pub WrittenBy : Meaning → Meaning → Option Form → List File → Type 0
 WrittenBy old new None files = ⊥
 WrittenBy old new (Some (Checking file)) files = LeavesOutputs old new
 WrittenBy old new (Some (Exporting export)) files = IsExported old new export files
+WrittenBy old new (Some (Making make)) files = Makes old new make.out (film_text make.film)
 WrittenBy old new (Some (Planning plan)) files = LeavesOutputs old new
 WrittenBy old new (Some (Cutting cut)) files = Written old new cut files
 
--- what a command needs: a check, a file in which judging finds no fault; an export, such a file and another name; a plan, a list that has runs over such a file; a cut, a list and a source that are ready, and a
--- key frame at the in-point
+-- what a command needs: a check, a file in which judging finds no fault; an export, such a file and another name; making a film,
+-- nothing; a plan, a list that has runs over such a file; a cut, a list and a source that are ready, and a key frame at the
+-- in-point
 abbrev pub IsGivenAll : Form → List File → Type 0
 IsGivenAll (Checking file) files = IsSound files file
 IsGivenAll (Exporting export) files = (is_same export ≡ false) × IsSound files export.file
+IsGivenAll (Making make) files = ⊤
 IsGivenAll (Planning plan) files = (runs : List Run) × HasRuns files plan runs
 IsGivenAll (Cutting cut) files = CanCut cut files
 
--- nothing was asked of the outputs but where all was given, and then by an export or a cut alone
+-- nothing was asked of the outputs but where all was given, and then by an export, a film that is made or a cut alone
 abbrev pub CreatesWhenGiven : Meaning → Meaning → Option Form → List File → Type 0
 CreatesWhenGiven old new None files = LeavesOutputs old new
 CreatesWhenGiven old new (Some (Checking file)) files = LeavesOutputs old new
 CreatesWhenGiven old new (Some (Exporting export)) files = LeavesOutputs old new ⊎ IsGivenAll (Exporting export) files
+CreatesWhenGiven old new (Some (Making make)) files = ⊤
 CreatesWhenGiven old new (Some (Planning plan)) files = LeavesOutputs old new
 CreatesWhenGiven old new (Some (Cutting cut)) files = LeavesOutputs old new ⊎ CanCut cut files
 
@@ -45,11 +50,12 @@ abbrev pub Completes : Meaning → Meaning → Option Form → List File → Sta
 Completes old new None files status = ⊤
 Completes old new (Some form) files status = IsGivenAll form files → IsCalm old new → (status ≡ Done) ⊎ (status ≡ NoMem)
 
--- a check and a plan create no output, and an export and a cut at most one, under the name OUT
+-- a check and a plan create no output, and the others at most one, under the name OUT; that of a film holds a first part of it
 abbrev pub MakesOnly : Meaning → Meaning → Option Form → Type 0
 MakesOnly old new None = LeavesOutputs old new
 MakesOnly old new (Some (Checking file)) = LeavesOutputs old new
 MakesOnly old new (Some (Exporting export)) = MakesAtMost old new export.out
+MakesOnly old new (Some (Making make)) = MakesPart old new make.out (film_text make.film)
 MakesOnly old new (Some (Planning plan)) = LeavesOutputs old new
 MakesOnly old new (Some (Cutting cut)) = MakesAtMost old new cut.out
 
@@ -58,6 +64,7 @@ abbrev pub LeavesBy : Option Form → Status → Meaning → Meaning → Type 0
 LeavesBy None status old new = LeavesOutputsAt status old new
 LeavesBy (Some (Checking file)) status old new = LeavesOutputsAt status old new
 LeavesBy (Some (Exporting export)) status old new = LeavesUntil status old new
+LeavesBy (Some (Making make)) status old new = LeavesOutputsAt status old new
 LeavesBy (Some (Planning plan)) status old new = LeavesOutputsAt status old new
 LeavesBy (Some (Cutting cut)) status old new = LeavesOutputsAt status old new
 

@@ -1,6 +1,8 @@
 pub mod Found
 pub mod Plans
 pub mod Exports
+pub mod Numbers
+pub mod Makes
 pub mod Forms
 pub mod Views
 pub mod Texts

@@ -4,13 +4,14 @@ ghost use Rattle.vid_desk.specs.Meaning.{ToldFiles, Rose};
 ghost use Rattle.cut_desk.specs.Outputs.{Seeks};
 ghost use Rattle.cut_desk.specs.Statuses.{status_in};
 ghost use Rattle.cut_app.specs.Forms.{form_of, inputs_in, inputs_of};
-ghost use Rattle.cut_app.specs.Views.{form_view};
+ghost use Rattle.cut_app.specs.Views.{form_view, IsWithinLimits};
 ghost use Rattle.cut_app.specs.Texts.{HasSaid, IsTextOf, StopsAt};
 ghost use Rattle.cut_app.specs.Causes.{CausedBy, FormCaused, IsOnly};
 ghost use Rattle.cut_app.specs.Commands.{Completes, CreatesWhenGiven, LeavesBy, MakesOnly, SaysBy, Tells, WrittenBy};
 
 use crate::checking::check;
 use crate::exporting::export_file;
+use crate::filming::make_film;
 use crate::planning::say_plan;
 use crate::words::{Command, command_of};
 use cut_report::{Status, fault_line};
@@ -33,6 +34,7 @@ fn tell<D: Desk>(desk: &mut D, status: Status) -> Status
 
 // Does a command.
 fn run<D: Desk>(alloc: Global, desk: &mut D, command: Command) -> Result<(), Status>
+    requires { IsWithinLimits (form_view command) }
     ensures caused { ToldFiles (D.sees desk.old) (λ files. FormCaused (form_view command.entry) files (status_in result)) }
     ensures written { OnOk result (ToldFiles (D.sees desk.old) (λ files. WrittenBy (D.sees desk.old) (D.sees desk.new) (Some (form_view command.entry)) files)) }
     ensures outputs { MakesOnly (D.sees desk.old) (D.sees desk.new) (Some (form_view command.entry)) }
@@ -51,6 +53,7 @@ fn run<D: Desk>(alloc: Global, desk: &mut D, command: Command) -> Result<(), Sta
     match command {
         Command::Check { file } => check(alloc, desk, file),
         Command::Export { file, out } => export_file(alloc, desk, file, out),
+        Command::Make { film, out } => make_film(alloc, desk, &film, out),
         Command::Plan { list, source } => say_plan(alloc, desk, list, source),
         Command::Cut { list, out, source } => cut(alloc, desk, list, out, source),
     }
@@ -66,6 +69,11 @@ fn run<D: Desk>(alloc: Global, desk: &mut D, command: Command) -> Result<(), Sta
 /// refusals is: the words; names that are the same; the file that is not there; a file of more than 2^40 bytes; the first check
 /// that fails. No output is created before all of these were looked at. Packets are read again then, so that `ReadFault` and
 /// `Changed` may leave an output with what came to it.
+///
+/// `make START FRAMES W H OUT` writes a film of FRAMES generated pictures of W by H samples as YUV4MPEG2 to the new output OUT,
+/// and says how many pictures and how many bytes it has. START says where the first picture begins. The numbers are decimal
+/// without leading zeros: START at most 2,147,483,647, FRAMES from 1 to 10,000, W and H from 1 to 1,024. After a refusal an
+/// output that was created holds a first part of the film.
 ///
 /// `plan LIST SRC` says the runs of the list over the source, a line each, and how many frames are copied and coded. The order
 /// of refusals is: the words; inputs that are not there, in the order of the words; a list of more than 2^20 bytes, a source of
@@ -85,8 +93,8 @@ pub fn oggcut<D: Desk>(alloc: Global, words: &[&str], desk: &mut D) -> Status
     // Over inputs that are told, each status has its cause, and no other status has one, so that each cause has its status.
     ensures caused { ToldFiles (D.sees desk.old) (λ files. CausedBy (form_of (map (λ word. word.now) words.now)) files result) }
     ensures only { ToldFiles (D.sees desk.old) (λ files. IsOnly (form_of (map (λ word. word.now) words.now)) files result) }
-    // The output of an export that was done holds the pictures of all frames of the file, and that of a cut the pages of the
-    // source's headers and of the frames of the slice.
+    // The output of an export that was done holds the pictures of all frames of the file, that of a film its pictures, and that
+    // of a cut the pages of the source's headers and of the frames of the slice.
     ensures written { result ≡ Status.Done → ToldFiles (D.sees desk.old) (λ files. WrittenBy (D.sees desk.old) (D.sees desk.new) (form_of (map (λ word. word.now) words.now)) files) }
     // Where all is given and no count of faults rises, the command is done.
     ensures complete { ToldFiles (D.sees desk.old) (λ files. Completes (D.sees desk.old) (D.sees desk.new) (form_of (map (λ word. word.now) words.now)) files result) }

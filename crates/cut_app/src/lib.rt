@@ -4,8 +4,10 @@
 mod checking;
 mod command;
 mod exporting;
+mod filming;
 mod judging;
 mod listing;
+mod numbers;
 mod planning;
 mod runs;
 mod words;
@@ -15,6 +17,8 @@ pub use cut_report::Status;
 
 #[cfg(test)]
 mod export_tests;
+#[cfg(test)]
+mod film_tests;
 #[cfg(test)]
 mod plan_tests;
 #[cfg(test)]

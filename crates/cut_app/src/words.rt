@@ -1,10 +1,13 @@
 // The words of a command line (own).
-ghost use Rattle.std.specs.Prelude.{◌≡◌, map};
+ghost use Rattle.std.specs.Prelude.{◌≡◌, map, IfSome};
 ghost use Rattle.std.specs.Option.{option_map};
-ghost use Rattle.cut_app.specs.Forms.{form_of, form_of_two};
-ghost use Rattle.cut_app.specs.Views.{form_view};
+ghost use Rattle.cut_app.specs.Forms.{form_of, form_of_film, form_of_two};
+ghost use Rattle.cut_app.specs.Views.{form_view, IsWithinLimits};
 
-/// A command and the names in its words.
+use crate::numbers::film_in;
+use cut_make::Film;
+
+/// A command and what is in its words.
 #[derive(Clone, Copy)]
 pub(crate) enum Command<'a> {
     Check {
@@ -19,6 +22,10 @@ pub(crate) enum Command<'a> {
         file: &'a str,
         out: &'a str,
     },
+    Make {
+        film: Film,
+        out: &'a str,
+    },
     Plan {
         list: &'a str,
         source: &'a str,
@@ -28,7 +35,8 @@ pub(crate) enum Command<'a> {
 // The command of three words that have a form.
 #[tactic(auto, unfolding(crate::specs::Forms::form_of_two))]
 fn command_of_two<'a>(command: &str, one: &'a str, other: &'a str) -> Option<Command<'a>>
-    ensures { option_map form_view result ≡ form_of_two command.now one.now other.now }
+    ensures form { option_map form_view result ≡ form_of_two command.now one.now other.now }
+    ensures limits { IfSome result (λ command. IsWithinLimits (form_view command)) }
 {
     if command == "plan" {
         return Some(Command::Plan {
@@ -45,9 +53,32 @@ fn command_of_two<'a>(command: &str, one: &'a str, other: &'a str) -> Option<Com
     None
 }
 
+// The command of six words that have a form.
+#[tactic(auto, unfolding(crate::specs::Forms::form_of_film))]
+fn command_of_film<'a>(
+    command: &str,
+    start: &str,
+    frames: &str,
+    w: &str,
+    h: &str,
+    out: &'a str,
+) -> Option<Command<'a>>
+    ensures form { option_map form_view result ≡ form_of_film command.now start.now frames.now w.now h.now out.now }
+    ensures limits { IfSome result (λ command. IsWithinLimits (form_view command)) }
+{
+    if command != "make" {
+        return None;
+    }
+    match film_in(start, frames, w, h) {
+        Some(film) => Some(Command::Make { film, out }),
+        None => None,
+    }
+}
+
 /// The command of words that have a form.
 pub(crate) fn command_of<'a>(words: &[&'a str]) -> Option<Command<'a>>
-    ensures { option_map form_view result ≡ form_of (map (λ word. word.now) words.now) }
+    ensures form { option_map form_view result ≡ form_of (map (λ word. word.now) words.now) }
+    ensures limits { IfSome result (λ command. IsWithinLimits (form_view command)) }
 {
     if let [command, file] = words {
         if *command == "check" {
@@ -57,6 +88,9 @@ pub(crate) fn command_of<'a>(words: &[&'a str]) -> Option<Command<'a>>
     }
     if let [command, one, other] = words {
         return command_of_two(command, one, other);
+    }
+    if let [command, start, frames, w, h, out] = words {
+        return command_of_film(command, start, frames, w, h, out);
     }
     let [command, list, out, source] = words else {
         return None;

@@ -8,3 +8,6 @@ returns-in-Plan-clause-stops g c = rw c.in-Plan.is c.say_plan.ensures.stops
 
 pub returns-in-Export-clause-stops : goal.returns-in-Export-clause-stops
 returns-in-Export-clause-stops g c = rw c.in-Export.is c.export_file.ensures.stops
+
+pub returns-in-Make-clause-stops : goal.returns-in-Make-clause-stops
+returns-in-Make-clause-stops g c = rw c.in-Make.is c.make_film.ensures.stops

@@ -1,0 +1,2 @@
+pub mod FilmLemmas
+pub mod PartLemmas
