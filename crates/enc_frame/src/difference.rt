@@ -19,7 +19,8 @@ pub struct Diff {
 
 // Two samples.
 fn apart(a: u8, b: u8) -> u8
-    ensures { result ≡ abs_diff a b }
+    ensures value { result ≡ abs_diff a b }
+    ensures small { result ≤ 255 }
 {
     a.abs_diff(b)
 }
@@ -62,7 +63,7 @@ fn with_plane(diff: Diff, a: &Plane, b: &Plane) -> Diff
 
 /// How far the samples of two frames of one shape are apart.
 #[tactic(auto, unfolding(crate::specs::Difference::samples_of))]
-pub(crate) fn difference(a: &Frame, b: &Frame) -> Diff
+pub(crate) fn compare(a: &Frame, b: &Frame) -> Diff
     requires y { IsLike a.now.y b.now.y }
     requires cb { IsLike a.now.cb b.now.cb }
     requires cr { IsLike a.now.cr b.now.cr }

@@ -1,5 +1,5 @@
 // An encoder of frames, packet after packet (own).
-ghost use Rattle.std.specs.Prelude.{◌≡◌, ◌↔◌, ◌<◌, ◌^◌, ◌++◌, Err, IfOk, IsSomeAnd, None, OnErr, OnOk, Option, Some, false, is_some, length, true};
+ghost use Rattle.std.specs.Prelude.{◌≡◌, ◌↔◌, ◌<◌, ◌^◌, ◌++◌, Err, IfOk, IsOk, IsSomeAnd, None, OnErr, OnOk, Option, Some, false, is_some, length, true};
 ghost use Rattle.thr_ident.specs.Ident.{header_of};
 ghost use Rattle.thr_ident.specs.Shape.{shape_of};
 ghost use Rattle.thr_huff.specs.Rows.{full_row_of};
@@ -8,12 +8,13 @@ ghost use Rattle.vid_plane.specs.Frames.{IsFrameOf};
 ghost use Rattle.thr_frame.specs.Painted.{AreSealed};
 ghost use Rattle.thr_frame.specs.Rebuilt.{Pair};
 ghost use Rattle.thr_frame.specs.Step.{is_key};
+ghost use Rattle.thr_frame.specs.Parsed.{coded_in, needs_frame};
 ghost use Rattle.enc_packet.specs.FullRows.{full_rows};
 ghost use Rattle.enc_frame.specs.Difference.{differences, greatest, samples_of, total};
 ghost use Rattle.enc_frame.specs.Encoding.{Leads, added};
 ghost use Rattle.enc_frame.specs.Near.{Near};
 
-use crate::difference::{Diff, difference};
+use crate::difference::{Diff, compare};
 use crate::draft::Sources;
 use crate::fault::EncFault;
 use crate::showing::show;
@@ -117,6 +118,26 @@ impl Encoder {
         })
     }
 
+    // Takes a packet that was made for a target as a decoder does, and appends it. Where memory is lacking nothing has changed.
+    fn take(&mut self, packet: &[u8], target: &Frame, out: &mut Vec<u8>) -> Result<(), NoMem>
+        requires target { IsFrameOf self.old.shape target.now }
+        requires says { IsOk (coded_in self.old.setup self.old.shape packet.now) }
+        requires some { 0 < length packet.now }
+        requires first { needs_frame packet.now ≡ true → is_some self.old.state ≡ true }
+        ensures appended { OnOk result (out.new.items ≡ out.old.items ++ packet.now) }
+        ensures leads { OnOk result (Leads self.old.setup self.old.shape self.old.state packet.now self.new.state) }
+        ensures target { OnOk result (self.new.target ≡ Some target.now) }
+        ensures setup { self.new.setup ≡ self.old.setup }
+        ensures shape { self.new.shape ≡ self.old.shape }
+        ensures encoder { OnErr result (self.new ≡ self.old) }
+        ensures bytes { OnErr result (out.new.items ≡ out.old.items) }
+    {
+        let (coded, work) = (&mut self.coded, &mut self.work);
+        show(&mut self.store, &self.geom, &self.setup, packet, coded, work, out)?;
+        self.target.copy_from(target);
+        Ok(())
+    }
+
     /// Appends the packet of a key frame, which is near the target at this quantiser index whatever was coded before, and takes
     /// it: the frame that it shows is the next one to predict from. Where memory is lacking nothing has changed.
     pub fn key(&mut self, target: &Frame, qi: u8, out: &mut Vec<u8>) -> Result<(), NoMem>
@@ -130,8 +151,10 @@ impl Encoder {
         ensures key { OnOk result (is_key (added out.old.items out.new.items) ≡ true) }
         ensures few { OnOk result ((0 < length (added out.old.items out.new.items)) × (length (added out.old.items out.new.items) < 2 ^ 30)) }
         ensures target { OnOk result (self.new.target ≡ Some target.now) }
-        ensures kept { (self.new.setup ≡ self.old.setup) × (self.new.shape ≡ self.old.shape) }
-        ensures memory { OnErr result ((self.new ≡ self.old) × (out.new.items ≡ out.old.items)) }
+        ensures setup { self.new.setup ≡ self.old.setup }
+        ensures shape { self.new.shape ≡ self.old.shape }
+        ensures encoder { OnErr result (self.new ≡ self.old) }
+        ensures bytes { OnErr result (out.new.items ≡ out.old.items) }
     {
         let from = Sources {
             geom: &self.geom,
@@ -155,10 +178,7 @@ impl Encoder {
             &mut self.work.bytes,
             &mut self.whole.coeffs,
         )?;
-        let (coded, work) = (&mut self.coded, &mut self.work);
-        show(&mut self.store, &self.geom, &self.setup, &packet, coded, work, out)?;
-        self.target.copy_from(target);
-        Ok(())
+        self.take(&packet, target, out)
     }
 
     /// Appends the packet of an inter frame, which is near the target at this quantiser index and predicted from the frames that
@@ -175,8 +195,10 @@ impl Encoder {
         ensures not_key { OnOk result (is_key (added out.old.items out.new.items) ≡ false) }
         ensures few { OnOk result ((0 < length (added out.old.items out.new.items)) × (length (added out.old.items out.new.items) < 2 ^ 30)) }
         ensures target { OnOk result (self.new.target ≡ Some target.now) }
-        ensures kept { (self.new.setup ≡ self.old.setup) × (self.new.shape ≡ self.old.shape) }
-        ensures memory { OnErr result ((self.new ≡ self.old) × (out.new.items ≡ out.old.items)) }
+        ensures setup { self.new.setup ≡ self.old.setup }
+        ensures shape { self.new.shape ≡ self.old.shape }
+        ensures encoder { OnErr result (self.new ≡ self.old) }
+        ensures bytes { OnErr result (out.new.items ≡ out.old.items) }
     {
         let alloc = *out.allocator();
         let (prev, golden) = (self.store.prev(), self.store.golden());
@@ -202,10 +224,7 @@ impl Encoder {
             &mut self.work.bytes,
             &mut self.whole.coeffs,
         )?;
-        let (coded, work) = (&mut self.coded, &mut self.work);
-        show(&mut self.store, &self.geom, &self.setup, &packet, coded, work, out)?;
-        self.target.copy_from(target);
-        Ok(())
+        self.take(&packet, target, out)
     }
 
     /// The frame that the last packet shows.
@@ -224,6 +243,6 @@ impl Encoder {
         ensures max { IsSomeAnd self.now.target (λ target. IsSomeAnd self.now.state (λ pair. result.max ≡ greatest (differences (samples_of target) (samples_of pair.prev)))) }
         ensures sum { IsSomeAnd self.now.target (λ target. IsSomeAnd self.now.state (λ pair. result.sum ≡ total (differences (samples_of target) (samples_of pair.prev)))) }
     {
-        difference(&self.target, self.store.prev())
+        compare(&self.target, self.store.prev())
     }
 }
