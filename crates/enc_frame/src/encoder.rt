@@ -127,10 +127,8 @@ impl Encoder {
         ensures appended { OnOk result (out.new.items ≡ out.old.items ++ packet.now) }
         ensures leads { OnOk result (Leads self.old.setup self.old.shape self.old.state packet.now self.new.state) }
         ensures target { OnOk result (self.new.target ≡ Some target.now) }
-        ensures setup { self.new.setup ≡ self.old.setup }
-        ensures shape { self.new.shape ≡ self.old.shape }
-        ensures encoder { OnErr result (self.new ≡ self.old) }
-        ensures bytes { OnErr result (out.new.items ≡ out.old.items) }
+        ensures kept { (self.new.setup ≡ self.old.setup) × (self.new.shape ≡ self.old.shape) }
+        ensures memory { OnErr result ((self.new ≡ self.old) × (out.new.items ≡ out.old.items)) }
     {
         let (coded, work) = (&mut self.coded, &mut self.work);
         show(&mut self.store, &self.geom, &self.setup, packet, coded, work, out)?;
@@ -151,10 +149,8 @@ impl Encoder {
         ensures key { OnOk result (is_key (added out.old.items out.new.items) ≡ true) }
         ensures few { OnOk result ((0 < length (added out.old.items out.new.items)) × (length (added out.old.items out.new.items) < 2 ^ 30)) }
         ensures target { OnOk result (self.new.target ≡ Some target.now) }
-        ensures setup { self.new.setup ≡ self.old.setup }
-        ensures shape { self.new.shape ≡ self.old.shape }
-        ensures encoder { OnErr result (self.new ≡ self.old) }
-        ensures bytes { OnErr result (out.new.items ≡ out.old.items) }
+        ensures kept { (self.new.setup ≡ self.old.setup) × (self.new.shape ≡ self.old.shape) }
+        ensures memory { OnErr result ((self.new ≡ self.old) × (out.new.items ≡ out.old.items)) }
     {
         let from = Sources {
             geom: &self.geom,
@@ -195,10 +191,8 @@ impl Encoder {
         ensures not_key { OnOk result (is_key (added out.old.items out.new.items) ≡ false) }
         ensures few { OnOk result ((0 < length (added out.old.items out.new.items)) × (length (added out.old.items out.new.items) < 2 ^ 30)) }
         ensures target { OnOk result (self.new.target ≡ Some target.now) }
-        ensures setup { self.new.setup ≡ self.old.setup }
-        ensures shape { self.new.shape ≡ self.old.shape }
-        ensures encoder { OnErr result (self.new ≡ self.old) }
-        ensures bytes { OnErr result (out.new.items ≡ out.old.items) }
+        ensures kept { (self.new.setup ≡ self.old.setup) × (self.new.shape ≡ self.old.shape) }
+        ensures memory { OnErr result ((self.new ≡ self.old) × (out.new.items ≡ out.old.items)) }
     {
         let alloc = *out.allocator();
         let (prev, golden) = (self.store.prev(), self.store.golden());
