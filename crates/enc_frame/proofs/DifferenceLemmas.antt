@@ -77,7 +77,7 @@ rows_more p q y is_p is_q like h =
     let w = p.width in
     let next : (y + 1) * w ≡ y * w + w = grind arith in
     let split : (xs : List ℕ) → drop (y * w) xs ≡ take w (drop (y * w) xs) ++ drop ((y + 1) * w) xs = λ xs.
-      sym (take-append-drop w (drop (y * w) xs)) ∙ ap (λ l. take w (drop (y * w) xs) ++ l) (drop-drop w (y * w) xs ∙ ap (λ n. drop n xs) (sym next)) in
+    sym (take-append-drop w (drop (y * w) xs)) ∙ ap (λ l. take w (drop (y * w) xs) ++ l) (drop-drop w (y * w) xs ∙ ap (λ n. drop n xs) (sym next)) in
     let own_p : drop (y * w) p.samples ≡ row_of p y ++ drop ((y + 1) * w) p.samples = split p.samples ∙ ap (λ l. l ++ drop ((y + 1) * w) p.samples) (row_is p y is_p h) in
     let own_q : drop (y * w) q.samples ≡ row_of q y ++ drop ((y + 1) * w) q.samples = split q.samples ∙ ap (λ l. l ++ drop ((y + 1) * w) q.samples) (ap (λ n. take n (drop (y * n) q.samples)) like.same_width ∙ row_is q y is_q (omega (arith, h, like.same_height))) in
     ap (λ l. differences l (drop (y * w) q.samples)) own_p ∙ ap (λ l. differences (row_of p y ++ drop ((y + 1) * w) p.samples) l) own_q ∙ differences_join (row_of p y) (row_of q y) (drop ((y + 1) * w) p.samples) (drop ((y + 1) * w) q.samples) (length_row p y ∙ like.same_width ∙ sym (length_row q y))

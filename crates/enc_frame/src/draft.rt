@@ -79,6 +79,7 @@ impl Sources<'_> {
             head.vectors,
             coeffs,
         );
-        write_packet(alloc, self.geom, self.setup, self.rows, head, flags, kinds, coeffs)
+        let (geom, setup) = (self.geom, self.setup);
+        Ok(write_packet(alloc, geom, setup, self.rows, head, flags, kinds, coeffs)?)
     }
 }

@@ -86,12 +86,7 @@ impl Encoder {
     }
 
     // The same, of whose trees these rows hold all tokens.
-    fn with_rows(
-        alloc: Global,
-        ident: &Ident,
-        setup: &Setup,
-        rows: Rows,
-    ) -> Result<Encoder, NoMem>
+    fn with_rows(alloc: Global, ident: &Ident, setup: &Setup, rows: Rows) -> Result<Encoder, NoMem>
         requires { rows ≡ full_rows (contents setup.now).forest }
         ensures setup { IfOk result (λ e. e.setup ≡ contents setup.now) }
         ensures shape { IfOk result (λ e. e.shape ≡ shape_of (header_of ident.now)) }
@@ -131,7 +126,15 @@ impl Encoder {
         ensures memory { OnErr result ((self.new ≡ self.old) × (out.new.items ≡ out.old.items)) }
     {
         let (coded, work) = (&mut self.coded, &mut self.work);
-        show(&mut self.store, &self.geom, &self.setup, packet, coded, work, out)?;
+        show(
+            &mut self.store,
+            &self.geom,
+            &self.setup,
+            packet,
+            coded,
+            work,
+            out,
+        )?;
         self.target.copy_from(target);
         Ok(())
     }
@@ -174,7 +177,8 @@ impl Encoder {
             &mut self.work.bytes,
             &mut self.whole.coeffs,
         )?;
-        self.take(&packet, target, out)
+        self.take(&packet, target, out)?;
+        Ok(())
     }
 
     /// Appends the packet of an inter frame, which is near the target at this quantiser index and predicted from the frames that
@@ -218,7 +222,8 @@ impl Encoder {
             &mut self.work.bytes,
             &mut self.whole.coeffs,
         )?;
-        self.take(&packet, target, out)
+        self.take(&packet, target, out)?;
+        Ok(())
     }
 
     /// The frame that the last packet shows.

@@ -148,12 +148,21 @@ fn a_decoder_shows_what_the_encoder_has(rt: HostRuntime) -> Result<(), Fail> {
     let mut decoder = Decoder::new(rt.alloc(), &IDENT, &setup)?;
     let mut encoder = encoder(&rt, rt.alloc());
     let mut key = Vec::new(rt.alloc());
-    encoder.key(&drawn(rt.alloc(), Luma::Slope(0))?, 40, &mut key).expect(&rt, "no memory");
+    encoder
+        .key(&drawn(rt.alloc(), Luma::Slope(0))?, 40, &mut key)
+        .expect(&rt, "no memory");
     assert!(rt; decoder.step(&key) == Ok(Kind::Intra));
     let mut inter = Vec::new(rt.alloc());
-    encoder.inter(&drawn(rt.alloc(), Luma::Slope(2))?, 40, &mut inter).expect(&rt, "no memory");
+    encoder
+        .inter(&drawn(rt.alloc(), Luma::Slope(2))?, 40, &mut inter)
+        .expect(&rt, "no memory");
     assert!(rt; decoder.step(&inter) == Ok(Kind::Inter));
-    assert!(rt; inter.len() < key.len(), "{} and {}", inter.len(), key.len());
+    assert!(rt;
+        inter.len() < key.len(),
+        "{} and {}",
+        inter.len(),
+        key.len()
+    );
     assert!(rt; decoder.started());
     let (shown, wanted) = (decoder.frame(), encoder.frame());
     assert!(rt; is_same(&shown.y, &wanted.y));
