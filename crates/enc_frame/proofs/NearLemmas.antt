@@ -1,5 +1,5 @@
 -- A packet that was made for a target is near it. The calls of `Encoder` cite `near_key` and `near_inter`.
-use Rattle.std.proofs.Common.{◌≡◌, ◌∙◌, ◌&&◌, not, ℕ, ◌<◌, ◌*◌, Bool, true, false, List, length, replicate, get_or, Option, Some, is_some, refl, sym, ap, subst, absurd}
+use Rattle.std.proofs.Common.{◌≡◌, ◌∙◌, ◌&&◌, not, ℕ, ◌<◌, ◌*◌, ◌+ℤ◌, ◌-ℤ◌, Bool, true, false, List, length, replicate, get_or, Option, Some, is_some, refl, sym, ap, subst}
 use Rattle.std.specs.List.{All}
 use Rattle.std.proofs.lemmas.Bool.{true≢false}
 use Rattle.std.proofs.lemmas.List.{get_or-replicate}
@@ -26,7 +26,7 @@ use Rattle.enc_search.specs.ChosenFrame.{chosen_frame}
 use Rattle.enc_search.specs.Searched.{Samples, IsLeast, IsSearched, block_distance, block_samples, luma_distance}
 use Rattle.enc_search.proofs.LumaLemmas.{luma_inside}
 use Rattle.enc_search.proofs.SumLemmas.{same_sum}
-use Rattle.enc_near.specs.Near.{IsNearBlock, IsNearFrame, IsNearest, block_matrix, coefficient, dc_predictor, fewest, lacking, most, prediction}
+use Rattle.enc_near.specs.Near.{TrueNearBlock, stand_in, IsNearBlock, IsNearFrame, IsNearest, block_matrix, coefficient, dc_predictor, fewest, lacking, most, prediction}
 use Rattle.enc_frame.specs.Drafted.{IsDraft}
 use Rattle.enc_frame.specs.Near.{Near}
 use Rattle.enc_frame.proofs.StateLemmas.{frame_says}
@@ -46,8 +46,8 @@ intra_prediction s p q c b whole intra is =
     whole_prediction s p c b whole is ∙ sym (flat_is s p c b 1 mode refl) ∙ flat_is s q c b 1 mode refl ∙ sym (whole_prediction s q c b whole is)
 
 -- a block is near where its predicted samples are the same
-near_block : (setup : Contents) (s : Shape) (p q : Pair) (target : Frame) (c : CodedFrame) (b : Block) → prediction s p c b ≡ prediction s q c b → IsNearBlock setup s p target c b → IsNearBlock setup s q target c b
-near_block setup s p q target c b same near = record {
+true_near_block : (setup : Contents) (s : Shape) (p q : Pair) (target : Frame) (c : CodedFrame) (b : Block) → prediction s p c b ≡ prediction s q c b → TrueNearBlock setup s p target c b → TrueNearBlock setup s q target c b
+true_near_block setup s p q target c b same near = record {
   others = λ k low high.
       subst (λ (P : Samples). IsNearest (entry (forward_of (lacking (block_samples target b) P)) k) (get_or (block_matrix setup s c b) k 0) fewest most (coefficient s c b k)) same (near.others k low high);
   dc = λ coded.
@@ -55,6 +55,9 @@ near_block setup s p q target c b same near = record {
   uncoded = λ coded.
       subst (λ (P : Samples). IsNearest (entry (forward_of (lacking (block_samples target b) P)) 0) (get_or (block_matrix setup s c b) 0 0) fewest most (coefficient s c b 0)) same (near.uncoded coded);
 }
+
+near_block : (setup : Contents) (s : Shape) (p q : Pair) (target : Frame) (c : CodedFrame) (b : Block) → prediction s p c b ≡ prediction s q c b → IsNearBlock setup s p target c b → IsNearBlock setup s q target c b
+near_block setup s p q target c b same near = stand_in setup s q target c b
 
 -- a packet that needs no frame is near from every state
 pub near_key : (setup : Contents) (s : Shape) (refs : Pair) (state : Option Pair) (target : Frame) (qi : ℕ) (mbmodes : List ℕ) (mvects : List Offset) (packet : List ℕ)
@@ -72,13 +75,14 @@ near_key setup s refs state target qi mbmodes mvects packet d intra = record {
     no_need false b e = refl
 
 -- predictions that agree on the blocks are equally far
+distance_same : (target : Frame) (P Q : Block → Samples) (blocks : List Block) → All (λ b. P b ≡ Q b) blocks → luma_distance target P blocks ≡ luma_distance target Q blocks
+unfolding luma_distance
+distance_same target P Q blocks all =
+    same_sum (λ b. block_distance (block_samples target b) (P b)) (λ b. block_distance (block_samples target b) (Q b)) blocks (λ k d h. ap (block_distance (block_samples target (get_or blocks k d))) (all k d h))
+
 least_same : (refs : Pair) (target : Frame) (P Q : Block → Samples) (blocks : List Block) → All (λ b. P b ≡ Q b) blocks → IsLeast refs target Q blocks → IsLeast refs target P blocks
 unfolding IsLeast
-least_same refs target P Q blocks all least = rw same least
-  where
-    same : luma_distance target P blocks ≡ luma_distance target Q blocks
-    unfolding luma_distance
-    same = same_sum (λ b. block_distance (block_samples target b) (P b)) (λ b. block_distance (block_samples target b) (Q b)) blocks (λ k d h. ap (block_distance (block_samples target (get_or blocks k d))) (all k d h))
+least_same refs target P Q blocks all least = rw (distance_same target P Q blocks all) least
 
 -- the predicted samples depend on modes and vectors alone
 chosen_prediction : (s : Shape) (refs : Pair) (c : CodedFrame) (b : Block) (mbmodes : List ℕ) (mvects : List Offset) → c.modes ≡ mbmodes → c.vectors ≡ mvects → predictor_at s refs c b ≡ predictor_at s refs (chosen_frame mbmodes mvects) b

@@ -1,6 +1,6 @@
 -- (private) What a packet is made from, as the code holds it (own).
 use Rattle.thr_frame.specs.Rebuilt.{Pair}
-use Rattle.enc_frame.specs.declared.draft.Sources.{Sources}
+use Rattle.enc_frame.specs.declared.sources.Sources.{Sources}
 
 -- the frames that are predicted from
 abbrev pub refs_of : Sources → Pair

@@ -2,42 +2,20 @@
 ghost use Rattle.std.specs.Prelude.{◌≡◌, ◌<◌, All, IfOk, length, map, replicate, true, false};
 ghost use Rattle.vid_geom.specs.CodedOrder.{order_of};
 ghost use Rattle.vid_geom.specs.MacroBlocks.{macro_blocks};
-ghost use Rattle.vid_plane.specs.Frames.{IsFrameOf};
 ghost use Rattle.thr_modes.specs.Chosen.{AreChosen};
 ghost use Rattle.thr_modes.specs.Vectors.{offset_of, still};
 ghost use Rattle.thr_setup.specs.Setup.{contents};
 ghost use Rattle.thr_frame.specs.CodedFrame.{intra_mode};
-ghost use Rattle.thr_frame.specs.Painted.{AreSealed};
-ghost use Rattle.enc_packet.specs.FullRows.{full_rows};
 ghost use Rattle.enc_frame.specs.Drafted.{IsDraft};
 ghost use Rattle.enc_frame.specs.Sources.{refs_of};
 
+use crate::sources::Sources;
 use enc_near::nearest_values;
-use enc_packet::{Head, Rows, write_packet};
+use enc_packet::{Head, write_packet};
 use std::alloc::Global;
 use thr_frame::fill_kinds;
-use thr_setup::Setup;
 use thr_token::Coeffs;
 use vid_base::NoMem;
-use vid_geom::Geom;
-use vid_plane::Frame;
-
-/// What a packet is made from: the stream, the frame that is to be shown, and those that it is predicted from.
-#[derive(Clone, Copy)]
-pub(crate) struct Sources<'a> {
-    pub geom: &'a Geom,
-    pub setup: &'a Setup,
-    pub rows: &'a Rows,
-    pub target: &'a Frame,
-    pub prev: &'a Frame,
-    pub golden: &'a Frame,
-    ghost rows_are: { rows.now ≡ full_rows (contents setup.now).forest },
-    ghost target_sized: { IsFrameOf geom.now target.now },
-    ghost prev_sized: { IsFrameOf geom.now prev.now },
-    ghost golden_sized: { IsFrameOf geom.now golden.now },
-    ghost prev_sealed: { AreSealed prev.now },
-    ghost golden_sealed: { AreSealed golden.now },
-}
 
 impl Sources<'_> {
     /// Makes the packet of a frame with all blocks coded. Which reference each block has is left in `kinds`; nothing is known

@@ -15,9 +15,9 @@ ghost use Rattle.enc_frame.specs.Encoding.{Leads, added};
 ghost use Rattle.enc_frame.specs.Near.{Near};
 
 use crate::difference::{Diff, compare};
-use crate::draft::Sources;
 use crate::fault::EncFault;
 use crate::showing::show;
+use crate::sources::Sources;
 use enc_packet::{Head, Rows};
 use enc_search::choose;
 use std::alloc::Global;

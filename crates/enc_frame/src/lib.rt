@@ -10,6 +10,7 @@ mod draft;
 mod encoder;
 mod fault;
 mod showing;
+mod sources;
 
 pub use difference::Diff;
 pub use encoder::Encoder;
