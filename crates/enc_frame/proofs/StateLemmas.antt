@@ -37,6 +37,15 @@ state_pair s r is = go r.started is.fresh
     go true h = refl
     go false h = sym (h refl)
 
+-- a frame is there where one is needed
+pub has_frame : (r : References) (needs : Bool) → (needs ≡ true → is_some (state_of r) ≡ true) → (not r.started && needs) ≡ false
+has_frame r true h = ap (λ b. not b && true) (sym (state_started r) ∙ h refl)
+has_frame r false h = none (not r.started)
+  where
+    none : (b : Bool) → (b && false) ≡ false
+    none true = refl
+    none false = refl
+
 -- what a packet says was decoded
 record Said (setup : Contents) (s : Shape) (refs : Pair) (packet : List ℕ) (next : Pair) : Type 0 where
   coded : CodedFrame
