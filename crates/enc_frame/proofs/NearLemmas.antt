@@ -26,7 +26,7 @@ use Rattle.enc_search.specs.ChosenFrame.{chosen_frame}
 use Rattle.enc_search.specs.Searched.{Samples, IsLeast, IsSearched, block_distance, block_samples, luma_distance}
 use Rattle.enc_search.proofs.LumaLemmas.{luma_inside}
 use Rattle.enc_search.proofs.SumLemmas.{same_sum}
-use Rattle.enc_near.specs.Near.{TrueNearBlock, stand_in, IsNearBlock, IsNearFrame, IsNearest, block_matrix, coefficient, dc_predictor, fewest, lacking, most, prediction}
+use Rattle.enc_near.specs.Near.{IsNearBlock, IsNearFrame, IsNearest, block_matrix, coefficient, dc_predictor, fewest, lacking, most, prediction}
 use Rattle.enc_frame.specs.Drafted.{IsDraft}
 use Rattle.enc_frame.specs.Near.{Near}
 use Rattle.enc_frame.proofs.StateLemmas.{frame_says}
@@ -46,8 +46,8 @@ intra_prediction s p q c b whole intra is =
     whole_prediction s p c b whole is ∙ sym (flat_is s p c b 1 mode refl) ∙ flat_is s q c b 1 mode refl ∙ sym (whole_prediction s q c b whole is)
 
 -- a block is near where its predicted samples are the same
-true_near_block : (setup : Contents) (s : Shape) (p q : Pair) (target : Frame) (c : CodedFrame) (b : Block) → prediction s p c b ≡ prediction s q c b → TrueNearBlock setup s p target c b → TrueNearBlock setup s q target c b
-true_near_block setup s p q target c b same near = record {
+near_block : (setup : Contents) (s : Shape) (p q : Pair) (target : Frame) (c : CodedFrame) (b : Block) → prediction s p c b ≡ prediction s q c b → IsNearBlock setup s p target c b → IsNearBlock setup s q target c b
+near_block setup s p q target c b same near = record {
   others = λ k low high.
       subst (λ (P : Samples). IsNearest (entry (forward_of (lacking (block_samples target b) P)) k) (get_or (block_matrix setup s c b) k 0) fewest most (coefficient s c b k)) same (near.others k low high);
   dc = λ coded.
@@ -55,9 +55,6 @@ true_near_block setup s p q target c b same near = record {
   uncoded = λ coded.
       subst (λ (P : Samples). IsNearest (entry (forward_of (lacking (block_samples target b) P)) 0) (get_or (block_matrix setup s c b) 0 0) fewest most (coefficient s c b 0)) same (near.uncoded coded);
 }
-
-near_block : (setup : Contents) (s : Shape) (p q : Pair) (target : Frame) (c : CodedFrame) (b : Block) → prediction s p c b ≡ prediction s q c b → IsNearBlock setup s p target c b → IsNearBlock setup s q target c b
-near_block setup s p q target c b same near = stand_in setup s q target c b
 
 -- a packet that needs no frame is near from every state
 pub near_key : (setup : Contents) (s : Shape) (refs : Pair) (state : Option Pair) (target : Frame) (qi : ℕ) (mbmodes : List ℕ) (mvects : List Offset) (packet : List ℕ)

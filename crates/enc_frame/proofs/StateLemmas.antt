@@ -37,6 +37,13 @@ state_pair s r is = go r.started is.fresh
     go true h = refl
     go false h = sym (h refl)
 
+pub state_some : (r : References) → is_some (state_of r) ≡ true → state_of r ≡ Some (pair_in r)
+state_some r some = go r.started (sym (state_started r) ∙ some)
+  where
+    go : (b : Bool) → b ≡ true → (if b then Some (pair_in r) else None) ≡ Some (pair_in r)
+    go true e = refl
+    go false e = absurd cc
+
 -- a frame is there where one is needed
 pub has_frame : (r : References) (needs : Bool) → (needs ≡ true → is_some (state_of r) ≡ true) → (not r.started && needs) ≡ false
 has_frame r true h = ap (λ b. not b && true) (sym (state_started r) ∙ h refl)
