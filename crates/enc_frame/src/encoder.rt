@@ -16,6 +16,7 @@ ghost use Rattle.enc_frame.specs.Near.{Near};
 
 use crate::difference::{Diff, compare};
 use crate::fault::EncFault;
+use crate::lists::lists;
 use crate::showing::show;
 use crate::sources::Sources;
 use enc_packet::{Head, Rows};
@@ -96,10 +97,8 @@ impl Encoder {
         let shape = ident.shape();
         let geom = Geom::new(alloc, shape)?;
         let store = RefStore::new(alloc, shape)?;
-        let whole = Coded::new(alloc, &geom)?;
-        let coded = Coded::new(alloc, &geom)?;
-        let work = Work::new(alloc, &geom)?;
-        let target = Frame::new(alloc, shape)?;
+        let made = lists(alloc, &geom)?;
+        let (whole, coded, work, target) = made;
         let setup = setup.clone()?;
         Ok(Encoder {
             setup,

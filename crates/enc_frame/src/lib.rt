@@ -9,6 +9,7 @@ mod difference;
 mod draft;
 mod encoder;
 mod fault;
+mod lists;
 mod showing;
 mod sources;
 
