@@ -97,9 +97,9 @@ impl Encoder {
         let shape = ident.shape();
         let geom = Geom::new(alloc, shape)?;
         let store = RefStore::new(alloc, shape)?;
+        let setup = setup.clone()?;
         let made = lists(alloc, &geom)?;
         let (whole, coded, work, target) = made;
-        let setup = setup.clone()?;
         Ok(Encoder {
             setup,
             geom,
