@@ -1,0 +1,5 @@
+pub mod DifferenceLemmas
+pub mod AddedLemmas
+pub mod ListsLemmas
+pub mod StateLemmas
+pub mod NearLemmas
