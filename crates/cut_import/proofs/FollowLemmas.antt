@@ -2,17 +2,20 @@
 use Rattle.std.proofs.Common.{◌≡◌, ◌∙◌, ℕ, ◌+◌, ◌≤◌, List, [], ◌∷◌, ◌++◌, length, Option, Some, None, refl, ap, sym, subst, arith, append_assoc, length-append}
 use Rattle.std.proofs.lemmas.List.{append-nil}
 use Rattle.vid_base.specs.declared.shape.Shape.{Shape}
-use Rattle.vid_desk.specs.Meaning.{Meaning, with_reads}
+use Rattle.vid_desk.specs.Meaning.{File, Meaning, with_last, with_reads}
 use Rattle.thr_frame.specs.Rebuilt.{Pair}
 use Rattle.y4m_io.specs.declared.fault.Y4mWhy.{Y4mWhy}
+use Rattle.y4m_io.specs.declared.head.Head.{Head}
 use Rattle.y4m_io.specs.Pictures.{Samples}
-use Rattle.y4m_io.specs.Progress.{Follow, FollowBad, Progress}
-use Rattle.y4m_io.specs.Reading.{Departure, GoesOn}
+use Rattle.y4m_io.specs.Progress.{Follow, FollowBad, IsStart, Progress}
+use Rattle.y4m_io.specs.Reading.{Departure, GoesOn, HasBadHead}
+use Rattle.y4m_io.proofs.ReadingLemmas.{started_is}
 use Rattle.cut_desk.specs.Growing.{Grows}
+use Rattle.cut_desk.specs.Outputs.{Makes}
 use Rattle.cut_desk.proofs.GrowingLemmas.{grows_reads, grows_twice}
 use Rattle.cut_import.specs.declared.importer.Importer.{Importer}
-use Rattle.cut_import.specs.Imported.{AreCodes, Codes}
-use Rattle.cut_import.specs.Importers.{FollowFirst, Stays}
+use Rattle.cut_import.specs.Imported.{AreCodes, Codes, StandFirst, import_shape}
+use Rattle.cut_import.specs.Importers.{CodesAll, FollowFirst, Stays}
 use Rattle.cut_import.proofs.CodeLemmas.{Join, codes_none}
 
 -- what follows later follows behind the pictures that were read
@@ -61,3 +64,28 @@ grows_before a b c id came grows kept later = subst (λ (t : List ℕ). Grows a 
 -- one more was read
 pub length_more : (read : List Samples) (picture : Samples) (frames : ℕ) → frames ≡ length read → frames + 1 ≡ length (read ++ picture ∷ [])
 length_more read picture frames count = omega (arith, count, length-append read (picture ∷ []))
+
+-- pictures that follow the head first stand first in the text
+pub stand_first : (bytes : List ℕ) (p : Progress) (pictures : List Samples) → IsStart bytes p → FollowFirst bytes p pictures → StandFirst bytes p.head pictures
+stand_first bytes p pictures start first = record { at = first.at; goes_on = λ more bad goes. started_is bytes p (pictures ++ more) bad start (first.goes_on more bad goes) }
+
+-- no picture was read
+pub none_first : (bytes : List ℕ) (p : Progress) → IsStart bytes p → FollowFirst bytes p []
+none_first bytes p start = read_first bytes p p [] start.bad refl start.frames (λ more bad follow. follow)
+
+-- a head that was read is no departure
+pub no_bad_head : (bytes : List ℕ) (p : Progress) (why : Y4mWhy) → IsStart bytes p → HasBadHead bytes why → ⊥
+no_bad_head bytes p why start bad =
+    let clash = sym start.head ∙ bad in cc
+
+-- what was made since inputs were read
+pub makes_reads : (old mid new : Meaning) (name bytes : List ℕ) → with_reads old mid → Makes mid new name bytes → Makes old new name bytes
+makes_reads old mid new name bytes kept makes = record {
+  outputs = makes.outputs ∙ ap (λ (o : Option (List File)). with_last o (record { name = name; bytes = bytes })) (ap {A = Meaning} (λ m. m.outputs) kept);
+  asked_for = makes.asked_for ∙ ap (λ (o : Option (List (List ℕ))). with_last o name) (ap {A = Meaning} (λ m. m.named) kept);
+}
+
+-- of an importer that has given the pages of its headers away: what it codes, where it is that of a head
+pub codes_head : (i : Importer) (head : Head) (qi keys : ℕ) (pictures : List Samples) (packets : List (List ℕ)) → i.encoder.shape ≡ import_shape head qi → i.qi ≡ qi → i.keys ≡ keys → i.encoder.state ≡ None
+    → CodesAll i pictures packets → AreCodes (import_shape head qi) qi keys None 0 pictures packets
+codes_head i head qi keys pictures packets shape same_qi same_keys state codes = rw (shape, same_qi, same_keys, state) at codes

@@ -35,10 +35,10 @@ fn macro_blocks(samples: u32) -> u16
 
 /// The identification header for the pictures of a head: the least coded frame that holds them, with the picture at its lower
 /// left.
-pub(crate) fn ident_of(head: &Head, qi: u8) -> Ident
-    requires head { IsHead head.now }
+pub(crate) fn ident_of(head: Head, qi: u8) -> Ident
+    requires head { IsHead head }
     requires qi { qi < 64 }
-    ensures { header_of result ≡ import_header head.now qi }
+    ensures { header_of result ≡ import_header head qi }
 {
     Ident {
         vrev: 1,

@@ -48,7 +48,7 @@ impl Importer {
         ensures stream { IfOk result (λ importer. (packets : List (List ℕ)) → rest_of importer.mux packets ≡ paged least_body (import_stream head.now qi) packets) }
         ensures state { IfOk result (λ importer. importer.encoder.state ≡ None) }
     {
-        let ident = ident_of(head, qi);
+        let ident = ident_of(*head, qi);
         let setup = import_setup(alloc)?;
         let encoder = match Encoder::new(alloc, &ident, &setup) {
             Ok(encoder) => encoder,

@@ -1,5 +1,5 @@
 // Reading YUV4MPEG2 (own).
-ghost use Rattle.std.specs.Prelude.{◌≡◌, ◌<◌, ◌≤◌, ◌+◌, ◌-◌, ◌^◌, IfOk, IsErrOf, OnOk, OnErr, length, vec_len};
+ghost use Rattle.std.specs.Prelude.{◌≡◌, ◌<◌, ◌≤◌, ◌+◌, ◌-◌, ◌^◌, None, IfOk, IsErrOf, OnOk, OnErr, length, vec_len};
 ghost use Rattle.vid_desk.specs.Meaning.{Rose, Told, with_reads};
 ghost use Rattle.y4m_io.specs.HeadLine.{IsHead};
 ghost use Rattle.y4m_io.specs.Pictures.{samples_of, IsPictureOf};
@@ -54,6 +54,7 @@ impl Y4m {
         requires id { id < (D.sees desk.old).found }
         ensures started { IfOk result (λ y. Told (D.sees desk.old) id (λ bytes. IsStart bytes (progress_of y))) }
         ensures input { IfOk result (λ y. ((progress_of y).input ≡ id) × IsOfInput (D.sees desk.new) (progress_of y)) }
+        ensures fresh { IfOk result (λ y. ((progress_of y).frames ≡ 0) × ((progress_of y).bad ≡ None)) }
         ensures fault { OnErr result (Told (D.sees desk.old) id (StopsIn result)) }
         ensures numbered { IsNumbered 0 result }
         ensures kept { with_reads (D.sees desk.old) (D.sees desk.new) }

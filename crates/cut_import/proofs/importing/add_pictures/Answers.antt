@@ -155,6 +155,6 @@ pictures-preserved g c =
       follows = λ files told.
           let bytes = bytes_at files (progress_of c.args.y4m.now).input in
           let gives : Behind (bytes_at files old.input) old new p = rw c.in-Ok-true.field-0-test at (c.in-Ok-true.ensures.gives files (ap {A = Meaning} (λ m. m.inputs) inv.grows.grown ∙ told)) in
-                let here : Behind bytes old new p = subst (λ (b : List ℕ). Behind b old new p) (ap (λ n. bytes_at files n) inv.same.input) gives in
+          let here : Behind bytes old new p = subst (λ (b : List ℕ). Behind b old new p) (ap (λ n. bytes_at files n) inv.same.input) gives in
           leads_more bytes (progress_of c.args.y4m.now) old new inv.read p (inv.follows files told) here;
     }
