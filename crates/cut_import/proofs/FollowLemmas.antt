@@ -1,5 +1,5 @@
 -- Pictures of an input one after another, and what is said of them. The calls of `importing` cite these.
-use Rattle.std.proofs.Common.{◌≡◌, ◌∙◌, ℕ, ◌+◌, ◌≤◌, List, [], ◌∷◌, ◌++◌, length, Option, Some, None, refl, ap, sym, subst, arith, append_assoc, length-append}
+use Rattle.std.proofs.Common.{◌≡◌, ◌∙◌, ℕ, ◌+◌, ◌≤◌, List, [], ◌∷◌, ◌++◌, length, Option, None, refl, ap, sym, subst, arith, append_assoc, length-append}
 use Rattle.std.proofs.lemmas.List.{append-nil}
 use Rattle.vid_base.specs.declared.shape.Shape.{Shape}
 use Rattle.vid_desk.specs.Meaning.{File, Meaning, with_last, with_reads}
@@ -8,7 +8,7 @@ use Rattle.y4m_io.specs.declared.fault.Y4mWhy.{Y4mWhy}
 use Rattle.y4m_io.specs.declared.head.Head.{Head}
 use Rattle.y4m_io.specs.Pictures.{Samples}
 use Rattle.y4m_io.specs.Progress.{Follow, FollowBad, IsStart, Progress}
-use Rattle.y4m_io.specs.Reading.{Departure, GoesOn, HasBadHead}
+use Rattle.y4m_io.specs.Reading.{Departure, HasBadHead}
 use Rattle.y4m_io.proofs.ReadingLemmas.{started_is}
 use Rattle.cut_desk.specs.Growing.{Grows}
 use Rattle.cut_desk.specs.Outputs.{Makes}

@@ -1,15 +1,13 @@
-use Rattle.std.proofs.Common.{◌≡◌, ◌∙◌, ◌+◌, ◌^◌, ◌<◌, ◌≤◌, ◌∷◌, ◌++◌, [], List, ℕ, Option, Some, None, ap, sym, subst, refl, inl, inr, arith, append_assoc}
+use Rattle.std.proofs.Common.{◌≡◌, ◌∙◌, ◌+◌, ◌^◌, ◌<◌, ◌∷◌, ◌++◌, [], List, ℕ, Some, None, ap, sym, subst, refl, inl, inr, arith, append_assoc}
 use Rattle.std.proofs.lemmas.List.{append-nil}
-use Rattle.vid_desk.specs.Meaning.{File, Meaning, bytes_at}
+use Rattle.vid_desk.specs.Meaning.{Meaning, bytes_at}
 use Rattle.ogg_mux.specs.Muxing.{rest_of}
 use Rattle.thr_frame.specs.Rebuilt.{Pair}
-use Rattle.y4m_io.specs.Pictures.{Samples, samples_of}
+use Rattle.y4m_io.specs.Pictures.{samples_of}
 use Rattle.y4m_io.specs.Progress.{Follow, Progress, progress_of}
-use Rattle.y4m_io.specs.Reading.{Departure}
 use Rattle.cut_desk.specs.Growing.{Grows}
-use Rattle.cut_desk.proofs.GrowingLemmas.{grows_behind, grows_none, grows_reads, grows_twice}
-use Rattle.cut_import.specs.Imported.{AreCodes, Codes}
-use Rattle.cut_import.specs.Importers.{AddsFirst, AddsSome}
+use Rattle.cut_desk.proofs.GrowingLemmas.{grows_none, grows_twice}
+use Rattle.cut_import.specs.Imported.{Codes}
 use Rattle.cut_import.proofs.CodeLemmas.{codes_more, codes_none, join_more, some_behind, some_none}
 use Rattle.cut_import.proofs.FollowLemmas.{Behind, codes_stay, grows_before, join_end, leads_end, leads_more, length_more, read_first}
 use Rattle.cut_import.proofs.importing.add_pictures.Goals as goal

@@ -1,16 +1,12 @@
-use Rattle.std.proofs.Common.{◌≡◌, ◌∙◌, ◌++◌, [], List, ℕ, Option, Some, None, ap, sym, subst, refl, inl, inr, append_assoc}
-use Rattle.vid_desk.specs.Meaning.{File, Meaning, bytes_at}
-use Rattle.ogg_mux.specs.Muxing.{Muxing, least_body, rest_of}
-use Rattle.ogg_mux.specs.OutputPages.{paged}
-use Rattle.y4m_io.specs.Pictures.{Samples}
-use Rattle.y4m_io.specs.Progress.{Follow, IsStart, Progress, progress_of}
-use Rattle.y4m_io.specs.Reading.{IsY4m}
+use Rattle.std.proofs.Common.{◌≡◌, ◌∙◌, ◌++◌, [], ℕ, Some, None, ap, sym, subst, inr, append_assoc}
+use Rattle.vid_desk.specs.Meaning.{Meaning, bytes_at}
+use Rattle.ogg_mux.specs.Muxing.{Muxing, rest_of}
+use Rattle.y4m_io.specs.Progress.{Follow, IsStart, progress_of}
 use Rattle.y4m_io.proofs.ReadingLemmas.{started_is}
-use Rattle.cut_desk.specs.Growing.{Grows, IsGrowing}
+use Rattle.cut_desk.specs.Growing.{IsGrowing}
 use Rattle.cut_desk.specs.Outputs.{Makes}
 use Rattle.cut_desk.proofs.GrowingLemmas.{growing_more, growing_new, makes_grown}
 use Rattle.cut_import.specs.declared.importer.Importer.{Importer}
-use Rattle.cut_import.specs.Imported.{import_stream}
 use Rattle.cut_import.specs.Importers.{AddsSome, FollowFirst}
 use Rattle.cut_import.proofs.CodeLemmas.{codes_none, ready_first, some_more, taken}
 use Rattle.cut_import.proofs.FollowLemmas.{codes_head, makes_reads, no_bad_head, none_first, stand_first}

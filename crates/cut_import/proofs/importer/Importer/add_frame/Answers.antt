@@ -1,6 +1,5 @@
 use Rattle.std.proofs.Common.{◌≡◌, ◌∙◌, ◌+◌, ◌-◌, ◌%◌, ◌==◌, ◌∷◌, ◌++◌, [], List, ℕ, ap, sym, subst, inl, inr, arith}
 use Rattle.ogg_mux.specs.Muxing.{Muxing, rest_of}
-use Rattle.y4m_io.specs.Pictures.{samples_of}
 use Rattle.cut_desk.proofs.GrowingLemmas.{grows_none}
 use Rattle.cut_import.specs.declared.importer.Importer.{Importer}
 use Rattle.cut_import.specs.Importers.{IsAt}

@@ -1,4 +1,4 @@
-use Rattle.std.proofs.Common.{◌≡◌, ◌∙◌, ◌%◌, List, ℕ, [], true, false, subst, sym}
+use Rattle.std.proofs.Common.{◌≡◌, ◌∙◌, ◌%◌, List, ℕ, true, false, subst}
 use Rattle.y4m_io.specs.Pictures.{samples_of}
 use Rattle.enc_frame.specs.Encoding.{Leads}
 use Rattle.enc_frame.specs.Near.{Near}
