@@ -20,7 +20,7 @@ const MOST_INDEX: u32 = 63;
 const MOST_KEYS: u32 = 64;
 
 /// How an import codes its pictures.
-#[derive(Clone, Copy, Debug, PartialEq, Eq)]
+#[derive(Clone, Copy)]
 pub(crate) struct Coding {
     /// The quantiser index of all frames.
     pub(crate) qi: u8,
