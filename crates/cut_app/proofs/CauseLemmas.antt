@@ -10,14 +10,16 @@ use Rattle.cut_desk.specs.Statuses.{IsOutside, LeavesOutputsAt}
 use Rattle.cut_desk.proofs.InputLemmas.{not_absent}
 use Rattle.cut_slice.proofs.CauseLemmas.{one_status as one_of_cut}
 use Rattle.cut_app.proofs.FindingLemmas.{one_finding}
+use Rattle.cut_app.proofs.ImportCauseLemmas.{one_of_import}
 use Rattle.cut_app.proofs.PlanCauseLemmas.{one_of_plan}
 use Rattle.cut_report.specs.declared.status.Status.{Status}
 use Rattle.cut_report.specs.declared.status.Status.TheVariants.{Done, Usage, NoFile, BadSource, BadList, Range, ReadFault, WriteFault, NoMem, BadY4m, TooLong, SameName, Changed, InPointNotKey, NotYet}
 use Rattle.cut_app.specs.Forms.{Form}
-use Rattle.cut_app.specs.Forms.Form.{Checking, Cutting, Exporting, Making, Planning}
+use Rattle.cut_app.specs.Forms.Form.{Checking, Cutting, Exporting, Importing, Making, Planning}
 use Rattle.cut_app.specs.Exports.{Export, LeavesUntil, is_same}
 use Rattle.cut_app.specs.Found.{IsFound}
 use Rattle.cut_make.specs.Statuses.{IsWriting}
+use Rattle.cut_app.specs.Imports.{LeavesWhileRead}
 use Rattle.cut_app.specs.Makes.{MakeCaused}
 use Rattle.cut_app.specs.Causes.{CausedBy, CheckCaused, ExportCaused, FormCaused, IsOnly, one_source, source_input, what_of}
 use Rattle.cut_app.specs.Commands.{Completes, CreatesWhenGiven, IsGivenAll, LeavesBy, Tells}
@@ -157,6 +159,7 @@ one_of_make a b x y = elim x [
 one_of_form : (form : Form) (files : List File) (a b : Status) → FormCaused form files a → FormCaused form files b → IsOutside a ⊎ (IsOutside b ⊎ (a ≡ b))
 one_of_form (Checking file) files a b x y = one_of_check file files a b x y
 one_of_form (Exporting export) files a b x y = one_of_export export files a b x y
+one_of_form (Importing import) files a b x y = one_of_import import files a b x y
 one_of_form (Making make) files a b x y = one_of_make a b x y
 one_of_form (Planning plan) files a b x y = one_of_plan plan files a b x y
 one_of_form (Cutting cut) files a b x y = one_of_cut cut files a b x y
@@ -194,6 +197,10 @@ only_told mid new form files status told cause tells = elim tells [
 pub created_told : (old mid new : Meaning) (form : Form) (files : List File) → new ≡ record mid { said = new.said; write_faults = new.write_faults } → CreatesWhenGiven old mid (Some form) files → CreatesWhenGiven old new (Some form) files
 created_told old mid new (Checking file) files kept left = left_told old mid new kept left
 created_told old mid new (Exporting export) files kept created = elim created [
+  | inl left ↦ inl (left_told old mid new kept left)
+  | inr given ↦ inr given
+]
+created_told old mid new (Importing import) files kept created = elim created [
   | inl left ↦ inl (left_told old mid new kept left)
   | inr given ↦ inr given
 ]
@@ -239,9 +246,27 @@ left_until old mid new InPointNotKey kept left = left_told old mid new kept left
 left_until old mid new (BadY4m frame why) kept left = left_told old mid new kept left
 left_until old mid new NotYet kept left = left_told old mid new kept left
 
+left_while : (old mid new : Meaning) (status : Status) → new ≡ record mid { said = new.said; write_faults = new.write_faults } → LeavesWhileRead status old mid → LeavesWhileRead status old new
+left_while old mid new Done kept left = tt
+left_while old mid new WriteFault kept left = tt
+left_while old mid new NoMem kept left = tt
+left_while old mid new ReadFault kept left = tt
+left_while old mid new Changed kept left = left_told old mid new kept left
+left_while old mid new Usage kept left = left_told old mid new kept left
+left_while old mid new SameName kept left = left_told old mid new kept left
+left_while old mid new (BadList line why) kept left = left_told old mid new kept left
+left_while old mid new (Range line) kept left = left_told old mid new kept left
+left_while old mid new (NoFile input) kept left = left_told old mid new kept left
+left_while old mid new (BadSource source what) kept left = left_told old mid new kept left
+left_while old mid new (TooLong input size) kept left = left_told old mid new kept left
+left_while old mid new InPointNotKey kept left = left_told old mid new kept left
+left_while old mid new (BadY4m frame why) kept left = tt
+left_while old mid new NotYet kept left = left_told old mid new kept left
+
 left_by : (old mid new : Meaning) (form : Form) (status : Status) → new ≡ record mid { said = new.said; write_faults = new.write_faults } → LeavesBy (Some form) status old mid → LeavesBy (Some form) status old new
 left_by old mid new (Checking file) status kept left = left_at old mid new status kept left
 left_by old mid new (Exporting export) status kept left = left_until old mid new status kept left
+left_by old mid new (Importing import) status kept left = left_while old mid new status kept left
 left_by old mid new (Making make) status kept left = left_at old mid new status kept left
 left_by old mid new (Planning plan) status kept left = left_at old mid new status kept left
 left_by old mid new (Cutting cut) status kept left = left_at old mid new status kept left
@@ -250,6 +275,7 @@ left_by old mid new (Cutting cut) status kept left = left_at old mid new status 
 no_memory : (old new : Meaning) (form : Form) → LeavesBy (Some form) NoMem old new
 no_memory old new (Checking file) = tt
 no_memory old new (Exporting export) = tt
+no_memory old new (Importing import) = tt
 no_memory old new (Making make) = tt
 no_memory old new (Planning plan) = tt
 no_memory old new (Cutting cut) = tt
@@ -263,6 +289,7 @@ before_told old mid new form status told kept tells left = elim tells [
 pub before_done : (old new : Meaning) (form : Form) → LeavesBy (Some form) Done old new
 before_done old new (Checking file) = tt
 before_done old new (Exporting export) = tt
+before_done old new (Importing import) = tt
 before_done old new (Making make) = tt
 before_done old new (Planning plan) = tt
 before_done old new (Cutting cut) = tt
@@ -290,6 +317,7 @@ calm_outside old new NotYet outside read write calm = absurd outside
 done_of : (form : Form) (files : List File) → IsGivenAll form files → FormCaused form files Done
 done_of (Checking file) files given = given
 done_of (Exporting export) files given = given
+done_of (Importing import) files given = given
 done_of (Making make) files given = inl refl
 done_of (Planning plan) files given = given
 done_of (Cutting cut) files given = given

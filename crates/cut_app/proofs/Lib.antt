@@ -3,7 +3,9 @@ mod RunLemmas
 mod PlanLemmas
 mod FindingLemmas
 mod PlanCauseLemmas
+mod ImportCauseLemmas
 mod CauseLemmas
 mod CheckLemmas
 mod SayingLemmas
 mod ExportLemmas
+mod ImportLemmas
