@@ -1,6 +1,6 @@
 -- The causes of two statuses of an import exclude each other, but for the faults of a desk and want of memory. The causes of
 -- commands cite this.
-use Rattle.std.proofs.Common.{◌≡◌, ℕ, List, Option, Some, None, Err, Result, true, false, inl, inr, ◌⊎◌, refl, ap, sym, subst, ◌∙◌}
+use Rattle.std.proofs.Common.{◌≡◌, ℕ, List, Some, None, Err, Result, true, false, inl, inr, ◌⊎◌, refl, ap, sym, subst, ◌∙◌}
 use Rattle.std.proofs.lemmas.Bool.{true≢false}
 use Rattle.vid_desk.specs.Meaning.{File}
 use Rattle.y4m_io.specs.declared.fault.Y4mWhy.{Y4mWhy}

@@ -1,25 +1,20 @@
 -- What an import leaves and says, by its exits. The command `import` cites these.
-use Rattle.std.proofs.Common.{◌≡◌, ℕ, List, [], Some, Ok, Err, Result, false, inl, inr, ◌⊎◌, refl, ap, sym, subst, ◌∙◌}
+use Rattle.std.proofs.Common.{◌≡◌, ℕ, List, Some, Ok, Err, Result, inl, inr, ◌⊎◌, refl, ◌∙◌}
 use Rattle.std.specs.Prelude.{take}
-use Rattle.vid_desk.specs.Meaning.{File, Meaning, bytes_at, place_of, with_last}
+use Rattle.vid_desk.specs.Meaning.{File, Meaning, bytes_at, place_of}
 use Rattle.y4m_io.specs.declared.fault.Y4mWhy.{Y4mWhy}
 use Rattle.y4m_io.specs.HeadLine.{HeadRead, head_in, longest_head}
 use Rattle.y4m_io.specs.Reading.{HasBadHead, IsY4m}
 use Rattle.cut_desk.specs.Inputs.{contents}
-use Rattle.cut_desk.specs.Outputs.{LeavesOutputs, Looks, Makes}
-use Rattle.cut_desk.proofs.InputLemmas.{contents_is, makes_since}
+use Rattle.cut_desk.specs.Outputs.{LeavesOutputs}
+use Rattle.cut_desk.proofs.InputLemmas.{contents_is}
 use Rattle.cut_report.specs.Lines.{imported_text}
 use Rattle.cut_report.specs.declared.status.Status.{Status}
-use Rattle.cut_report.specs.declared.status.Status.TheVariants.{Done, Usage, NoFile, BadSource, BadList, Range, ReadFault, WriteFault, NoMem, BadY4m, TooLong, SameName, Changed, InPointNotKey, NotYet}
+use Rattle.cut_report.specs.declared.status.Status.TheVariants.{BadY4m}
 use Rattle.cut_import.specs.Imported.{Departs, IsImport}
 use Rattle.cut_import.specs.Statuses.{IsImporting}
-use Rattle.cut_app.specs.Causes.{ImportCaused}
-use Rattle.cut_app.specs.Forms.{Form}
-use Rattle.cut_app.specs.Imports.{DepartsAt, HasHead, Import, Imports, IsImportOf, IsImported, IsImportText, IsWhole, LeavesWhileRead, is_over}
-use Rattle.cut_app.specs.Steps.{IsFilming, RefusesFilm}
-use Rattle.cut_app.specs.Texts.{StopsAt}
-use Rattle.cut_app.proofs.ExportLemmas.{looks_left}
-use Rattle.cut_app.proofs.SayingLemmas.{said_nothing}
+use Rattle.cut_app.specs.Imports.{HasHead, Import, Imports, IsImportText, IsWhole}
+use Rattle.cut_app.specs.Steps.{RefusesFilm}
 
 -- why coding was refused
 pub refuses_film : (files : List File) (name : List ℕ) (id : ℕ) (status : Status) → IsImporting status → place_of files name ≡ Some id

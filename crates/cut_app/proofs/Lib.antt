@@ -5,6 +5,7 @@ mod FindingLemmas
 mod PlanCauseLemmas
 mod ImportCauseLemmas
 mod CauseLemmas
+mod LeavingLemmas
 mod CheckLemmas
 mod SayingLemmas
 mod ExportLemmas
