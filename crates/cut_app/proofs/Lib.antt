@@ -3,10 +3,7 @@ mod RunLemmas
 mod PlanLemmas
 mod FindingLemmas
 mod PlanCauseLemmas
-mod ImportCauseLemmas
 mod CauseLemmas
-mod LeavingLemmas
 mod CheckLemmas
 mod SayingLemmas
 mod ExportLemmas
-mod ImportLemmas
