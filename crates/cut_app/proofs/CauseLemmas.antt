@@ -5,22 +5,23 @@ use Rattle.std.proofs.lemmas.Bool.{true≢false}
 use Rattle.vid_desk.specs.Meaning.{File, Meaning, Rose}
 use Rattle.src_index.specs.Judge.{Verdict}
 use Rattle.cut_desk.specs.Inputs.{IsAbsent, IsOverlong}
-use Rattle.cut_desk.specs.Outputs.{IsCalm, LeavesOutputs}
-use Rattle.cut_desk.specs.Statuses.{IsOutside, LeavesOutputsAt}
+use Rattle.cut_desk.specs.Outputs.{IsCalm}
+use Rattle.cut_desk.specs.Statuses.{IsOutside}
 use Rattle.cut_desk.proofs.InputLemmas.{not_absent}
 use Rattle.cut_slice.proofs.CauseLemmas.{one_status as one_of_cut}
 use Rattle.cut_app.proofs.FindingLemmas.{one_finding}
+use Rattle.cut_app.proofs.ImportCauseLemmas.{one_of_import}
 use Rattle.cut_app.proofs.PlanCauseLemmas.{one_of_plan}
 use Rattle.cut_report.specs.declared.status.Status.{Status}
 use Rattle.cut_report.specs.declared.status.Status.TheVariants.{Done, Usage, NoFile, BadSource, BadList, Range, ReadFault, WriteFault, NoMem, BadY4m, TooLong, SameName, Changed, InPointNotKey, NotYet}
 use Rattle.cut_app.specs.Forms.{Form}
-use Rattle.cut_app.specs.Forms.Form.{Checking, Cutting, Exporting, Making, Planning}
-use Rattle.cut_app.specs.Exports.{Export, LeavesUntil, is_same}
+use Rattle.cut_app.specs.Forms.Form.{Checking, Cutting, Exporting, Importing, Making, Planning}
+use Rattle.cut_app.specs.Exports.{Export, is_same}
 use Rattle.cut_app.specs.Found.{IsFound}
 use Rattle.cut_make.specs.Statuses.{IsWriting}
 use Rattle.cut_app.specs.Makes.{MakeCaused}
 use Rattle.cut_app.specs.Causes.{CausedBy, CheckCaused, ExportCaused, FormCaused, IsOnly, one_source, source_input, what_of}
-use Rattle.cut_app.specs.Commands.{Completes, CreatesWhenGiven, IsGivenAll, LeavesBy, Tells}
+use Rattle.cut_app.specs.Commands.{Completes, IsGivenAll, Tells}
 
 -- how a check ends that its file brings to its end: it is not there, it has too many bytes, or judging finds this
 data End : Type 0 where
@@ -157,6 +158,7 @@ one_of_make a b x y = elim x [
 one_of_form : (form : Form) (files : List File) (a b : Status) → FormCaused form files a → FormCaused form files b → IsOutside a ⊎ (IsOutside b ⊎ (a ≡ b))
 one_of_form (Checking file) files a b x y = one_of_check file files a b x y
 one_of_form (Exporting export) files a b x y = one_of_export export files a b x y
+one_of_form (Importing import) files a b x y = one_of_import import files a b x y
 one_of_form (Making make) files a b x y = one_of_make a b x y
 one_of_form (Planning plan) files a b x y = one_of_plan plan files a b x y
 one_of_form (Cutting cut) files a b x y = one_of_cut cut files a b x y
@@ -176,96 +178,12 @@ pub only : (form : Option Form) (files : List File) (status : Status) → Caused
 only None files status cause = λ other next. one_without_form status other cause next
 only (Some form) files status cause = λ other next. one_of_form form files status other cause next
 
--- outputs that were left before a line was told are left
-left_told : (old mid new : Meaning) → new ≡ record mid { said = new.said; write_faults = new.write_faults } → LeavesOutputs old mid → LeavesOutputs old new
-left_told old mid new kept left =
-    let outputs : new.outputs ≡ mid.outputs = ap {A = Meaning} (λ m. m.outputs) kept in
-    let named : new.named ≡ mid.named = ap {A = Meaning} (λ m. m.named) kept in
-    (outputs ∙ left.0, named ∙ left.1)
-
 -- so is one that was told
 pub only_told : (mid new : Meaning) (form : Form) (files : List File) (status told : Status) → FormCaused form files status → Tells mid new status told → IsOnly (Some form) files told
 only_told mid new form files status told cause tells = elim tells [
   | inl same ↦ rw same.0 (only (Some form) files status cause)
   | inr none ↦ λ other next. inl (rw none.0 tt)
 ]
-
--- a line that is told asks nothing of the outputs
-pub created_told : (old mid new : Meaning) (form : Form) (files : List File) → new ≡ record mid { said = new.said; write_faults = new.write_faults } → CreatesWhenGiven old mid (Some form) files → CreatesWhenGiven old new (Some form) files
-created_told old mid new (Checking file) files kept left = left_told old mid new kept left
-created_told old mid new (Exporting export) files kept created = elim created [
-  | inl left ↦ inl (left_told old mid new kept left)
-  | inr given ↦ inr given
-]
-created_told old mid new (Making make) files kept given = tt
-created_told old mid new (Planning plan) files kept left = left_told old mid new kept left
-created_told old mid new (Cutting cut) files kept created = elim created [
-  | inl left ↦ inl (left_told old mid new kept left)
-  | inr given ↦ inr given
-]
-
--- what a status says of the outputs stays over the telling
-left_at : (old mid new : Meaning) (status : Status) → new ≡ record mid { said = new.said; write_faults = new.write_faults } → LeavesOutputsAt status old mid → LeavesOutputsAt status old new
-left_at old mid new Done kept left = tt
-left_at old mid new WriteFault kept left = tt
-left_at old mid new NoMem kept left = tt
-left_at old mid new Usage kept left = left_told old mid new kept left
-left_at old mid new Changed kept left = left_told old mid new kept left
-left_at old mid new SameName kept left = left_told old mid new kept left
-left_at old mid new (BadList line why) kept left = left_told old mid new kept left
-left_at old mid new (Range line) kept left = left_told old mid new kept left
-left_at old mid new (NoFile input) kept left = left_told old mid new kept left
-left_at old mid new (BadSource source what) kept left = left_told old mid new kept left
-left_at old mid new (TooLong input size) kept left = left_told old mid new kept left
-left_at old mid new InPointNotKey kept left = left_told old mid new kept left
-left_at old mid new (BadY4m frame why) kept left = left_told old mid new kept left
-left_at old mid new NotYet kept left = left_told old mid new kept left
-left_at old mid new ReadFault kept left = left_told old mid new kept left
-
-left_until : (old mid new : Meaning) (status : Status) → new ≡ record mid { said = new.said; write_faults = new.write_faults } → LeavesUntil status old mid → LeavesUntil status old new
-left_until old mid new Done kept left = tt
-left_until old mid new WriteFault kept left = tt
-left_until old mid new NoMem kept left = tt
-left_until old mid new ReadFault kept left = tt
-left_until old mid new Changed kept left = tt
-left_until old mid new Usage kept left = left_told old mid new kept left
-left_until old mid new SameName kept left = left_told old mid new kept left
-left_until old mid new (BadList line why) kept left = left_told old mid new kept left
-left_until old mid new (Range line) kept left = left_told old mid new kept left
-left_until old mid new (NoFile input) kept left = left_told old mid new kept left
-left_until old mid new (BadSource source what) kept left = left_told old mid new kept left
-left_until old mid new (TooLong input size) kept left = left_told old mid new kept left
-left_until old mid new InPointNotKey kept left = left_told old mid new kept left
-left_until old mid new (BadY4m frame why) kept left = left_told old mid new kept left
-left_until old mid new NotYet kept left = left_told old mid new kept left
-
-left_by : (old mid new : Meaning) (form : Form) (status : Status) → new ≡ record mid { said = new.said; write_faults = new.write_faults } → LeavesBy (Some form) status old mid → LeavesBy (Some form) status old new
-left_by old mid new (Checking file) status kept left = left_at old mid new status kept left
-left_by old mid new (Exporting export) status kept left = left_until old mid new status kept left
-left_by old mid new (Making make) status kept left = left_at old mid new status kept left
-left_by old mid new (Planning plan) status kept left = left_at old mid new status kept left
-left_by old mid new (Cutting cut) status kept left = left_at old mid new status kept left
-
--- want of memory says nothing of the outputs
-no_memory : (old new : Meaning) (form : Form) → LeavesBy (Some form) NoMem old new
-no_memory old new (Checking file) = tt
-no_memory old new (Exporting export) = tt
-no_memory old new (Making make) = tt
-no_memory old new (Planning plan) = tt
-no_memory old new (Cutting cut) = tt
-
-pub before_told : (old mid new : Meaning) (form : Form) (status told : Status) → new ≡ record mid { said = new.said; write_faults = new.write_faults } → Tells mid new status told → LeavesBy (Some form) status old mid → LeavesBy (Some form) told old new
-before_told old mid new form status told kept tells left = elim tells [
-  | inl same ↦ rw same.0 (left_by old mid new form status kept left)
-  | inr none ↦ rw none.0 (no_memory old new form)
-]
-
-pub before_done : (old new : Meaning) (form : Form) → LeavesBy (Some form) Done old new
-before_done old new (Checking file) = tt
-before_done old new (Exporting export) = tt
-before_done old new (Making make) = tt
-before_done old new (Planning plan) = tt
-before_done old new (Cutting cut) = tt
 
 -- a status that no input is the cause of is want of memory, where no fault was counted
 calm_outside : (old new : Meaning) (status : Status) → IsOutside status → (status ≡ ReadFault → Rose old.read_faults new.read_faults) → (status ≡ WriteFault → Rose old.write_faults new.write_faults)
@@ -290,6 +208,7 @@ calm_outside old new NotYet outside read write calm = absurd outside
 done_of : (form : Form) (files : List File) → IsGivenAll form files → FormCaused form files Done
 done_of (Checking file) files given = given
 done_of (Exporting export) files given = given
+done_of (Importing import) files given = given
 done_of (Making make) files given = inl refl
 done_of (Planning plan) files given = given
 done_of (Cutting cut) files given = given

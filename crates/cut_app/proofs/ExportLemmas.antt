@@ -1,5 +1,5 @@
 -- What an export leaves and says, by its exits. The command `export` cites these.
-use Rattle.std.proofs.Common.{◌≡◌, ℕ, ◌≤◌, false, List, [], length, Option, Some, Ok, Err, inl, inr, refl, ap, sym, subst, ◌∙◌}
+use Rattle.std.proofs.Common.{◌≡◌, ℕ, ◌≤◌, false, List, [], length, Some, Ok, Err, inl, inr, refl, ap, sym, subst, ◌∙◌}
 use Rattle.std.specs.Prelude.{⊤, Result}
 use Rattle.vid_desk.specs.Meaning.{File, Meaning, Says, bytes_at, with_last}
 use Rattle.vid_desk.specs.declared.fault.DeskFault.{DeskFault}
@@ -9,7 +9,6 @@ use Rattle.src_index.specs.Loading.{IsIndexed, IsLoadedFrom, longest}
 use Rattle.src_index.specs.Track.{frames_of}
 use Rattle.cut_desk.specs.Inputs.{contents}
 use Rattle.cut_desk.specs.Outputs.{LeavesOutputs, Looks, Makes, MakesAtMost}
-use Rattle.cut_desk.specs.Statuses.{writing_status}
 use Rattle.cut_desk.proofs.InputLemmas.{makes_since}
 use Rattle.cut_report.specs.Lines.{exported_text}
 use Rattle.cut_report.specs.declared.status.Status.{Status}
@@ -18,7 +17,7 @@ use Rattle.cut_export.specs.Exported.{IsExport}
 use Rattle.cut_export.specs.Films.{ToldTrack}
 use Rattle.cut_export.specs.Statuses.{IsExporting}
 use Rattle.cut_export.proofs.FilmLemmas.{count_is}
-use Rattle.cut_app.specs.Causes.{CheckCaused, ExportCaused, IsSound}
+use Rattle.cut_app.specs.Causes.{CheckCaused, ExportCaused}
 use Rattle.cut_app.specs.Exports.{Export, IsExported, IsExportText, LeavesUntil, is_same}
 use Rattle.cut_app.specs.Forms.{Form}
 use Rattle.cut_app.specs.Found.{IsFound}

@@ -3,7 +3,10 @@ mod RunLemmas
 mod PlanLemmas
 mod FindingLemmas
 mod PlanCauseLemmas
+mod ImportCauseLemmas
 mod CauseLemmas
+mod LeavingLemmas
 mod CheckLemmas
 mod SayingLemmas
 mod ExportLemmas
+mod ImportLemmas

@@ -15,9 +15,10 @@ use Rattle.cut_report.specs.declared.status.SourceWhat.TheVariants.{Packet, Page
 use Rattle.cut_report.specs.declared.status.Status.{Status}
 use Rattle.cut_report.specs.declared.status.Status.TheVariants.{Done, Usage, NoFile, BadSource, BadList, Range, ReadFault, WriteFault, NoMem, BadY4m, TooLong, SameName, Changed, InPointNotKey, NotYet}
 use Rattle.cut_app.specs.Forms.{Form}
-use Rattle.cut_app.specs.Forms.Form.{Checking, Cutting, Exporting, Making, Planning}
+use Rattle.cut_app.specs.Forms.Form.{Checking, Cutting, Exporting, Importing, Making, Planning}
 use Rattle.cut_app.specs.Exports.{Export, is_same}
 use Rattle.cut_app.specs.Found.{IsFound}
+use Rattle.cut_app.specs.Imports.{Import, DepartsAt, IsWhole, is_over}
 use Rattle.cut_app.specs.Makes.{MakeCaused}
 use Rattle.cut_app.specs.Plans.{HasRuns, IsRead, Plan, plan_over}
 
@@ -88,6 +89,24 @@ ExportCaused export files InPointNotKey = ⊥
 ExportCaused export files (BadY4m frame why) = ⊥
 ExportCaused export files NotYet = ⊥
 
+-- the cause of each status of an import: the names are looked at before anything is looked for
+abbrev pub ImportCaused : Import → List File → Status → Type 0
+ImportCaused import files Done = (is_over import ≡ false) × IsWhole files import.y4m
+ImportCaused import files SameName = is_over import ≡ true
+ImportCaused import files (NoFile input) = (is_over import ≡ false) × IsMissing files (import.y4m ∷ []) input
+ImportCaused import files (BadY4m frame why) = (is_over import ≡ false) × DepartsAt files import.y4m frame why
+ImportCaused import files ReadFault = ⊤
+ImportCaused import files WriteFault = ⊤
+ImportCaused import files NoMem = ⊤
+ImportCaused import files Usage = ⊥
+ImportCaused import files (BadSource source what) = ⊥
+ImportCaused import files (BadList line why) = ⊥
+ImportCaused import files (Range line) = ⊥
+ImportCaused import files (TooLong input size) = ⊥
+ImportCaused import files Changed = ⊥
+ImportCaused import files InPointNotKey = ⊥
+ImportCaused import files NotYet = ⊥
+
 -- the cause of each status of a plan: the source is judged before the list is read
 abbrev pub PlanCaused : Plan → List File → Status → Type 0
 PlanCaused plan files Done = (runs : List Run) × HasRuns files plan runs
@@ -110,6 +129,7 @@ PlanCaused plan files NotYet = ⊥
 abbrev pub FormCaused : Form → List File → Status → Type 0
 FormCaused (Checking file) files status = CheckCaused file files status
 FormCaused (Exporting export) files status = ExportCaused export files status
+FormCaused (Importing import) files status = ImportCaused import files status
 FormCaused (Making make) files status = MakeCaused status
 FormCaused (Planning plan) files status = PlanCaused plan files status
 FormCaused (Cutting cut) files status = Caused cut files status

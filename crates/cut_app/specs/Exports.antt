@@ -1,5 +1,5 @@
 -- What an export does (own).
-use Rattle.std.specs.Prelude.{◌≡◌, ⊤, ℕ, Bool, false, List, length, Option, Ok}
+use Rattle.std.specs.Prelude.{◌≡◌, ⊤, ℕ, Bool, List, length, Option, Ok}
 use Rattle.std.specs.Str.{bytes_eq}
 use Rattle.vid_desk.specs.Meaning.{File, Meaning, with_last}
 use Rattle.src_index.specs.Track.{frames_of}

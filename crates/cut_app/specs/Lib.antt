@@ -3,6 +3,7 @@ pub mod Plans
 pub mod Exports
 pub mod Numbers
 pub mod Makes
+pub mod Imports
 pub mod Forms
 pub mod Views
 pub mod Texts

@@ -1,4 +1,4 @@
--- The steps of the commands that read a source: why each is refused (private).
+-- The steps of the commands that read inputs: why each is refused (private).
 use Rattle.std.specs.Prelude.{◌≡◌, ⊤, ℕ, ◌<◌, List, [], ◌∷◌, length, Err}
 use Rattle.vid_desk.specs.Meaning.{File}
 use Rattle.src_index.specs.declared.fault.Fault.{Fault}
@@ -11,6 +11,7 @@ use Rattle.cut_desk.specs.Inputs.{IsMissing, IsTooLong}
 use Rattle.cut_report.specs.declared.status.Status.{Status}
 use Rattle.cut_report.specs.declared.status.Status.TheVariants.{Done, Usage, NoFile, BadSource, BadList, Range, ReadFault, WriteFault, NoMem, BadY4m, TooLong, SameName, Changed, InPointNotKey, NotYet}
 use Rattle.cut_app.specs.Causes.{list_input, source_input, what_of, one_source}
+use Rattle.cut_app.specs.Imports.{DepartsAt}
 use Rattle.cut_app.specs.Plans.{Plan}
 
 -- statuses that come before a command has its text
@@ -102,3 +103,40 @@ RefusesRange index slices WriteFault = ⊥
 RefusesRange index slices InPointNotKey = ⊥
 RefusesRange index slices (BadY4m frame why) = ⊥
 RefusesRange index slices NotYet = ⊥
+
+-- why an input that is looked for, read and coded is refused; want of memory has no cause in it, and a desk's counts show the
+-- faults of reading and writing
+abbrev pub RefusesFilm : List File → List ℕ → Status → Type 0
+RefusesFilm files name (NoFile input) = IsMissing files (name ∷ []) input
+RefusesFilm files name (BadY4m frame why) = DepartsAt files name frame why
+RefusesFilm files name ReadFault = ⊤
+RefusesFilm files name WriteFault = ⊤
+RefusesFilm files name NoMem = ⊤
+RefusesFilm files name Done = ⊥
+RefusesFilm files name Usage = ⊥
+RefusesFilm files name (BadSource source what) = ⊥
+RefusesFilm files name (BadList line why) = ⊥
+RefusesFilm files name (Range line) = ⊥
+RefusesFilm files name (TooLong input size) = ⊥
+RefusesFilm files name SameName = ⊥
+RefusesFilm files name Changed = ⊥
+RefusesFilm files name InPointNotKey = ⊥
+RefusesFilm files name NotYet = ⊥
+
+-- statuses that come while an input is looked for, read and coded
+abbrev pub IsFilming : Status → Type 0
+IsFilming (NoFile input) = ⊤
+IsFilming (BadY4m frame why) = ⊤
+IsFilming ReadFault = ⊤
+IsFilming WriteFault = ⊤
+IsFilming NoMem = ⊤
+IsFilming Done = ⊥
+IsFilming Usage = ⊥
+IsFilming (BadSource source what) = ⊥
+IsFilming (BadList line why) = ⊥
+IsFilming (Range line) = ⊥
+IsFilming (TooLong input size) = ⊥
+IsFilming SameName = ⊥
+IsFilming Changed = ⊥
+IsFilming InPointNotKey = ⊥
+IsFilming NotYet = ⊥

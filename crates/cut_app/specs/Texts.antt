@@ -13,8 +13,9 @@ use Rattle.cut_report.specs.declared.status.Status.TheVariants.{Done, Usage, NoF
 use Rattle.cut_app.specs.Found.{IsFound}
 use Rattle.cut_app.specs.Plans.{IsPlanText}
 use Rattle.cut_app.specs.Forms.{Form}
-use Rattle.cut_app.specs.Forms.Form.{Checking, Cutting, Exporting, Making, Planning}
+use Rattle.cut_app.specs.Forms.Form.{Checking, Cutting, Exporting, Importing, Making, Planning}
 use Rattle.cut_app.specs.Exports.{IsExportText}
+use Rattle.cut_app.specs.Imports.{IsImportText}
 use Rattle.cut_app.specs.Makes.{IsMakeText}
 
 -- how many of these packets of a track are key frames
@@ -41,6 +42,7 @@ pub record IsCheckText (files : List File) (file text : List ℕ) : Type 0 where
 abbrev pub IsTextOf : Form → List File → Option (List File) → Option (List File) → List ℕ → Type 0
 IsTextOf (Checking file) files before after text = IsCheckText files file text
 IsTextOf (Exporting export) files before after text = IsExportText files export before after text
+IsTextOf (Importing import) files before after text = IsImportText files import before after text
 IsTextOf (Making make) files before after text = IsMakeText make before after text
 IsTextOf (Planning plan) files before after text = IsPlanText files plan text
 IsTextOf (Cutting cut) files before after text = text ≡ []

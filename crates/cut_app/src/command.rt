@@ -12,6 +12,7 @@ ghost use Rattle.cut_app.specs.Commands.{Completes, CreatesWhenGiven, LeavesBy, 
 use crate::checking::check;
 use crate::exporting::export_file;
 use crate::filming::make_film;
+use crate::importing::import_film;
 use crate::planning::say_plan;
 use crate::words::{Command, command_of};
 use cut_report::{Status, fault_line};
@@ -53,6 +54,7 @@ fn run<D: Desk>(alloc: Global, desk: &mut D, command: Command) -> Result<(), Sta
     match command {
         Command::Check { file } => check(alloc, desk, file),
         Command::Export { file, out } => export_file(alloc, desk, file, out),
+        Command::Import { y4m, out, coding } => import_film(alloc, desk, y4m, out, &coding),
         Command::Make { film, out } => make_film(alloc, desk, &film, out),
         Command::Plan { list, source } => say_plan(alloc, desk, list, source),
         Command::Cut { list, out, source } => cut(alloc, desk, list, out, source),
@@ -69,6 +71,12 @@ fn run<D: Desk>(alloc: Global, desk: &mut D, command: Command) -> Result<(), Sta
 /// refusals is: the words; names that are the same; the file that is not there; a file of more than 2^40 bytes; the first check
 /// that fails. No output is created before all of these were looked at. Packets are read again then, so that `ReadFault` and
 /// `Changed` may leave an output with what came to it.
+///
+/// `import Y4M OUT QI KEYS` codes the pictures of a YUV4MPEG2 text as a Theora stream in the new output OUT, and says how many
+/// there are. QI, from 0 to 63, is the quantiser index of all frames, and a frame is a key frame where KEYS, from 1 to 64, divides
+/// its number. The order of refusals is: the words; names that are the same; the input that is not there; the first departure of
+/// its text. The head is read before the output is created, and pictures are read and coded one after another, so that `BadY4m`
+/// and `ReadFault` may leave an output with what came to it, a first part of the pages of the pictures that were read.
 ///
 /// `make START FRAMES W H OUT` writes a film of FRAMES generated pictures of W by H samples as YUV4MPEG2 to the new output OUT,
 /// and says how many pictures and how many bytes it has. START says where the first picture begins. The numbers are decimal
@@ -93,8 +101,9 @@ pub fn oggcut<D: Desk>(alloc: Global, words: &[&str], desk: &mut D) -> Status
     // Over inputs that are told, each status has its cause, and no other status has one, so that each cause has its status.
     ensures caused { ToldFiles (D.sees desk.old) (λ files. CausedBy (form_of (map (λ word. word.now) words.now)) files result) }
     ensures only { ToldFiles (D.sees desk.old) (λ files. IsOnly (form_of (map (λ word. word.now) words.now)) files result) }
-    // The output of an export that was done holds the pictures of all frames of the file, that of a film its pictures, and that
-    // of a cut the pages of the source's headers and of the frames of the slice.
+    // The output of an export that was done holds the pictures of all frames of the file, that of an import the pages of its
+    // headers and of a packet near each picture, that of a film its pictures, and that of a cut the pages of the source's headers
+    // and of the frames of the slice.
     ensures written { result ≡ Status.Done → ToldFiles (D.sees desk.old) (λ files. WrittenBy (D.sees desk.old) (D.sees desk.new) (form_of (map (λ word. word.now) words.now)) files) }
     // Where all is given and no count of faults rises, the command is done.
     ensures complete { ToldFiles (D.sees desk.old) (λ files. Completes (D.sees desk.old) (D.sees desk.new) (form_of (map (λ word. word.now) words.now)) files result) }

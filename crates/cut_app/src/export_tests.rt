@@ -36,7 +36,7 @@ fn film(rt: &(impl Abort + AllocGlobal), frames: &[&[u8]]) -> Vec<u8> {
 }
 
 // The text of pictures, of which each has this luma all over, and chroma 128.
-fn text_of(rt: &(impl Abort + AllocGlobal), lumas: &[u8]) -> Vec<u8> {
+pub(crate) fn text_of(rt: &(impl Abort + AllocGlobal), lumas: &[u8]) -> Vec<u8> {
     let mut text = Vec::new(rt.alloc());
     assert!(rt; text.extend_from_slice(HEAD.as_bytes()).is_ok());
     for luma in lumas {

@@ -5,6 +5,7 @@ mod checking;
 mod command;
 mod exporting;
 mod filming;
+mod importing;
 mod judging;
 mod listing;
 mod numbers;
@@ -19,6 +20,8 @@ pub use cut_report::Status;
 mod export_tests;
 #[cfg(test)]
 mod film_tests;
+#[cfg(test)]
+mod import_tests;
 #[cfg(test)]
 mod plan_tests;
 #[cfg(test)]

@@ -1,10 +1,10 @@
 // The words of a command line (own).
 ghost use Rattle.std.specs.Prelude.{◌≡◌, map, IfSome};
 ghost use Rattle.std.specs.Option.{option_map};
-ghost use Rattle.cut_app.specs.Forms.{form_of, form_of_film, form_of_two};
+ghost use Rattle.cut_app.specs.Forms.{form_of, form_of_film, form_of_import, form_of_two};
 ghost use Rattle.cut_app.specs.Views.{form_view, IsWithinLimits};
 
-use crate::numbers::film_in;
+use crate::numbers::{Coding, coding_in, film_in};
 use cut_make::Film;
 
 /// A command and what is in its words.
@@ -21,6 +21,11 @@ pub(crate) enum Command<'a> {
     Export {
         file: &'a str,
         out: &'a str,
+    },
+    Import {
+        y4m: &'a str,
+        out: &'a str,
+        coding: Coding,
     },
     Make {
         film: Film,
@@ -51,6 +56,27 @@ fn command_of_two<'a>(command: &str, one: &'a str, other: &'a str) -> Option<Com
         });
     }
     None
+}
+
+// The command of five words that have a form.
+#[tactic(auto, unfolding(crate::specs::Forms::form_of_import))]
+fn command_of_import<'a>(
+    command: &str,
+    y4m: &'a str,
+    out: &'a str,
+    qi: &str,
+    keys: &str,
+) -> Option<Command<'a>>
+    ensures form { option_map form_view result ≡ form_of_import command.now y4m.now out.now qi.now keys.now }
+    ensures limits { IfSome result (λ command. IsWithinLimits (form_view command)) }
+{
+    if command != "import" {
+        return None;
+    }
+    match coding_in(qi, keys) {
+        Some(coding) => Some(Command::Import { y4m, out, coding }),
+        None => None,
+    }
 }
 
 // The command of six words that have a form.
@@ -88,6 +114,9 @@ pub(crate) fn command_of<'a>(words: &[&'a str]) -> Option<Command<'a>>
     }
     if let [command, one, other] = words {
         return command_of_two(command, one, other);
+    }
+    if let [command, y4m, out, qi, keys] = words {
+        return command_of_import(command, y4m, out, qi, keys);
     }
     if let [command, start, frames, w, h, out] = words {
         return command_of_film(command, start, frames, w, h, out);

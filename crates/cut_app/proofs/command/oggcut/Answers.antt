@@ -3,7 +3,8 @@ use Rattle.vid_desk.specs.Meaning.{Meaning}
 use Rattle.cut_report.specs.declared.status.Status.TheVariants.{Done}
 use Rattle.cut_app.specs.Forms.{form_of}
 use Rattle.cut_app.specs.Views.{form_view}
-use Rattle.cut_app.proofs.CauseLemmas.{before_done, before_told, completes_told, created_told, only, only_told}
+use Rattle.cut_app.proofs.CauseLemmas.{completes_told, only, only_told}
+use Rattle.cut_app.proofs.LeavingLemmas.{before_done, before_told, created_told}
 use Rattle.cut_app.proofs.SayingLemmas.{says_told}
 use Rattle.cut_app.proofs.command.oggcut.Goals as goal
 

@@ -11,3 +11,6 @@ returns-in-Export-clause-stops g c = rw c.in-Export.is c.export_file.ensures.sto
 
 pub returns-in-Make-clause-stops : goal.returns-in-Make-clause-stops
 returns-in-Make-clause-stops g c = rw c.in-Make.is c.make_film.ensures.stops
+
+pub returns-in-Import-clause-stops : goal.returns-in-Import-clause-stops
+returns-in-Import-clause-stops g c = rw c.in-Import.is c.import_film.ensures.stops

@@ -1,5 +1,5 @@
-use Rattle.std.proofs.Common.{◌≡◌, ◌∙◌, ◌≤◌, ℕ, List, Option, false, ap, inr, rules}
-use Rattle.vid_desk.specs.Meaning.{File, Meaning, Rose}
+use Rattle.std.proofs.Common.{◌≡◌, ◌∙◌, ℕ, List, Option, false, ap, inr, rules}
+use Rattle.vid_desk.specs.Meaning.{Meaning}
 use Rattle.cut_report.specs.Lines.{exported_text}
 use Rattle.src_index.specs.Index.{frame_count}
 use Rattle.cut_app.specs.Forms.Form.{Exporting}
