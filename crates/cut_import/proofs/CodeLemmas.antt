@@ -1,5 +1,5 @@
 -- Pictures that are padded and coded one after another. The calls of `importer` and `importing` cite these.
-use Rattle.std.proofs.Common.{◌≡◌, ◌∙◌, ℕ, ◌+◌, ◌-◌, ◌*◌, ◌/◌, ◌%◌, ◌^◌, ◌<◌, ◌≤◌, ◌==◌, zero, suc, Bool, true, false, if◌then◌else◌, List, [], ◌∷◌, ◌++◌, Option, Some, Err, refl, ap, sym, subst, arith, append_assoc}
+use Rattle.std.proofs.Common.{◌≡◌, ◌∙◌, ℕ, ◌+◌, ◌-◌, ◌*◌, ◌/◌, ◌%◌, ◌^◌, ◌<◌, ◌≤◌, ◌==◌, zero, suc, Bool, true, false, if◌then◌else◌, List, [], ◌∷◌, ◌++◌, length, Option, Some, Err, refl, ap, sym, subst, arith, append_assoc}
 use Rattle.std.proofs.lemmas.Bool.{true≢false}
 use Rattle.std.proofs.lemmas.Bool.Decides.{nat_tests}
 use Rattle.std.proofs.lemmas.Nat.{mod-mul-add}
@@ -121,11 +121,12 @@ pub some_none : (a b : Meaning) (id : ℕ) (came rest all : List ℕ) → Grows 
 some_none a b id came rest all grows is = record { came = came; rest = rest; part = is; grows = grows }
 
 -- a packet that was made for a target, as one of an importer
-pub coded : (old new : Importer) (n : ℕ) (p : Samples) (target : Frame) (packet : List ℕ) (key : Bool) → old.encoder.setup ≡ imported → target ≡ padded old.encoder.shape p → (n % old.keys == 0) ≡ key → is_key_packet packet ≡ key
+pub coded : (old new : Importer) (n : ℕ) (p : Samples) (target : Frame) (packet : List ℕ) (key : Bool) → old.encoder.setup ≡ imported → target ≡ padded old.encoder.shape p → (n % old.keys == 0) ≡ key → is_key_packet packet ≡ key → length packet < 2 ^ 30
     → Near old.encoder.setup old.encoder.shape old.encoder.state target old.qi packet → Leads old.encoder.setup old.encoder.shape old.encoder.state packet new.encoder.state → HasCoded old new n p packet
-coded old new n p target packet key tables is divides kind near leads = record {
+coded old new n p target packet key tables is divides kind short near leads = record {
   codes = record {
     key = same_key packet ∙ kind ∙ sym divides;
+    short = short;
     near = rw (tables, is) at near;
     next = leads.pair;
     steps = rw tables at leads.steps;

@@ -49,7 +49,7 @@ leads_end bytes first now read bad leads follow = subst (λ (ps : List Samples).
 pub codes_stay : (old now : Importer) (state : Option Pair) (n : ℕ) (picture : Samples) (packet : List ℕ) → Stays old now → (codes : Codes now.encoder.shape now.qi now.keys state n picture packet)
     → (moved : Codes old.encoder.shape old.qi old.keys state n picture packet) × (moved.next ≡ codes.next)
 codes_stay old now state n picture packet stays codes =
-    (record { key = rw stays.keys at codes.key; near = rw (stays.shape, stays.qi) at codes.near; next = codes.next; steps = rw stays.shape at codes.steps }, refl)
+    (record { key = rw stays.keys at codes.key; short = codes.short; near = rw (stays.shape, stays.qi) at codes.near; next = codes.next; steps = rw stays.shape at codes.steps }, refl)
 
 -- the packets of all pictures that were read
 pub join_end : (s : Shape) (qi keys n : ℕ) (first now : Option Pair) (read : List Samples) (coded : List (List ℕ)) → Join s qi keys first now n read coded → AreCodes s qi keys first 0 read coded

@@ -1,2 +1,4 @@
 pub mod CodeLemmas
 pub mod FollowLemmas
+pub mod HeaderLemmas
+pub mod SoundLemmas

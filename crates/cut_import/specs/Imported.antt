@@ -1,6 +1,6 @@
 -- What the import of a YUV4MPEG2 text writes (own): a stream of Theora packets, each near a picture. qi is the quantiser index, and each
 -- frame whose number `keys` divides is a key frame.
-use Rattle.std.specs.Prelude.{◌≡◌, ⊤, ℕ, ◌+◌, ◌/◌, ◌%◌, ◌==◌, List, [], ◌∷◌, ◌++◌, length, Option, Some, None, ◌⊎◌, Ok}
+use Rattle.std.specs.Prelude.{◌≡◌, ⊤, ℕ, ◌+◌, ◌/◌, ◌%◌, ◌^◌, ◌<◌, ◌==◌, List, [], ◌∷◌, ◌++◌, length, Option, Some, None, ◌⊎◌, Ok}
 use Rattle.vid_base.specs.declared.shape.Shape.{Shape}
 use Rattle.vid_base.specs.Sizes.{plane_height, plane_width}
 use Rattle.vid_desk.specs.Meaning.{Meaning}
@@ -16,6 +16,7 @@ use Rattle.thr_setup.specs.Setup.{packet_of}
 use Rattle.thr_frame.specs.Rebuilt.{Pair}
 use Rattle.thr_frame.specs.Step.{step}
 use Rattle.enc_frame.specs.Near.{Near}
+use Rattle.src_index.specs.Judge.{Judged}
 use Rattle.y4m_io.specs.declared.fault.Y4mWhy.{Y4mWhy}
 use Rattle.y4m_io.specs.declared.head.Head.{Head}
 use Rattle.y4m_io.specs.Pad.{padded_plane}
@@ -56,6 +57,10 @@ import_shape h qi = shape_of (import_header h qi)
 abbrev pub import_stream : Head → ℕ → Stream
 import_stream h qi = record { ident = header_bytes (import_header h qi); comment = own_comment; setup = packet_of imported; serial = 1; shift = 6; base = 1 }
 
+-- all its packets, with these frames
+abbrev pub import_packets : Head → ℕ → List (List ℕ) → List (List ℕ)
+import_packets h qi frames = header_bytes (import_header h qi) ∷ own_comment ∷ packet_of imported ∷ frames
+
 -- a picture in a frame of that shape
 abbrev pub padded : Shape → Samples → Frame
 padded s p = record {
@@ -67,6 +72,7 @@ padded s p = record {
 -- packet n, which leads from one state to the next: it is a key frame where `keys` divides n, and near the padded picture
 pub record Codes (s : Shape) (qi keys : ℕ) (state : Option Pair) (n : ℕ) (picture : Samples) (packet : List ℕ) : Type 0 where
   pub key : is_key packet ≡ (n % keys == 0)
+  pub short : length packet < 2 ^ 30
   pub near : Near imported s state (padded s picture) qi packet
   pub next : Pair
   pub steps : step imported s state packet ≡ Ok next
@@ -78,7 +84,8 @@ AreCodes s qi keys state n [] (packet ∷ packets) = ⊥
 AreCodes s qi keys state n (picture ∷ pictures) [] = ⊥
 AreCodes s qi keys state n (picture ∷ pictures) (packet ∷ packets) = (codes : Codes s qi keys state n picture packet) × AreCodes s qi keys (Some codes.next) (n + 1) pictures packets
 
--- of a text without departure: the pages of its headers and of one packet for each picture
+-- of a text without departure: the pages of its headers and of one packet for each picture, which are judged as a file with these
+-- packets
 pub record IsImport (bytes : List ℕ) (qi keys count : ℕ) (written : List ℕ) : Type 0 where
   pub head : Head
   pub pictures : List Samples
@@ -86,6 +93,7 @@ pub record IsImport (bytes : List ℕ) (qi keys count : ℕ) (written : List ℕ
   pub text : IsY4m bytes head pictures None
   pub codes : AreCodes (import_shape head qi) qi keys None 0 pictures packets
   pub written_is : written ≡ paged least_body (import_stream head qi) packets
+  pub well_formed : Judged written (Ok (import_packets head qi packets))
   pub count_is : count ≡ length pictures
 
 -- a text has that head, and these pictures stand first: whatever goes on behind them follows them

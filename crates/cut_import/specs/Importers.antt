@@ -1,5 +1,5 @@
 -- (private) What an import codes and writes with, and how far it has come (own). n is the number of the next frame.
-use Rattle.std.specs.Prelude.{◌≡◌, ℕ, ◌+◌, ◌-◌, ◌%◌, ◌<◌, ◌≤◌, List, [], ◌∷◌, ◌++◌, length, Option, Some, None, true, false, is_some, ◌⊎◌}
+use Rattle.std.specs.Prelude.{◌≡◌, ℕ, ◌+◌, ◌-◌, ◌%◌, ◌^◌, ◌<◌, ◌≤◌, List, [], ◌∷◌, ◌++◌, length, Option, Some, None, true, false, is_some, ◌⊎◌}
 use Rattle.vid_desk.specs.Meaning.{Meaning, Told}
 use Rattle.vid_plane.specs.Frames.{IsFrameOf}
 use Rattle.ogg_mux.specs.Muxing.{rest_of}
@@ -74,6 +74,7 @@ pub record AddsFilm (old new : Meaning) (id : ℕ) (i : Importer) (p : Progress)
   pub codes : CodesAll i pictures packets
   pub grows : Grows old new id (rest_of i.mux packets)
   pub count_is : count ≡ length pictures
+  pub few : length pictures ≤ 2 ^ 24
   pub all : Told old p.input (λ bytes. Follow p bytes pictures None)
 
 -- these pictures follow first: whatever goes on behind them follows them

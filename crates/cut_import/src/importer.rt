@@ -1,13 +1,15 @@
 // Pictures coded and written one after another (own).
-ghost use Rattle.std.specs.Prelude.{◌≡◌, ◌+◌, ◌^◌, ◌<◌, ◌≤◌, [], List, ℕ, false, true, is_some, None, IfErr, IfOk, IsErrOf, OnErr, OnOk};
+ghost use Rattle.std.specs.Prelude.{◌≡◌, ◌+◌, ◌^◌, ◌<◌, ◌≤◌, [], List, ℕ, false, true, is_some, None, Ok, IfErr, IfOk, IsErrOf, OnErr, OnOk};
 ghost use Rattle.vid_desk.specs.Meaning.{Rose};
 ghost use Rattle.cut_desk.specs.Growing.{Grows};
 ghost use Rattle.ogg_link.specs.Track.{is_key};
 ghost use Rattle.ogg_mux.specs.Muxing.{least_body, rest_of};
 ghost use Rattle.ogg_mux.specs.OutputPages.{paged};
+ghost use Rattle.thr_ident.specs.Header.{header_bytes};
+ghost use Rattle.thr_ident.specs.Ident.{ident_of};
 ghost use Rattle.y4m_io.specs.HeadLine.{IsHead};
 ghost use Rattle.y4m_io.specs.Pictures.{IsPicture, samples_of};
-ghost use Rattle.cut_import.specs.Imported.{import_shape, import_stream};
+ghost use Rattle.cut_import.specs.Imported.{import_header, import_shape, import_stream};
 ghost use Rattle.cut_import.specs.Importers.{AddsFrame, AddsPart, AddsSome, HasCoded, IsAt, IsImporter, Stays};
 ghost use Rattle.cut_import.specs.Statuses.{IsWriting};
 
@@ -47,6 +49,7 @@ impl Importer {
         ensures made { IfOk result (λ importer. (importer.encoder.shape ≡ import_shape head.now qi) × (importer.qi ≡ qi) × (importer.keys ≡ keys)) }
         ensures stream { IfOk result (λ importer. (packets : List (List ℕ)) → rest_of importer.mux packets ≡ paged least_body (import_stream head.now qi) packets) }
         ensures state { IfOk result (λ importer. importer.encoder.state ≡ None) }
+        ensures reads { IfOk result (λ importer. ident_of (header_bytes (import_header head.now qi)) ≡ Ok (import_header head.now qi)) }
     {
         let ident = ident_of(*head, qi);
         let setup = import_setup(alloc)?;

@@ -74,6 +74,7 @@ returns-in-Ok-end-clause-added g c =
       grows = subst (λ (t : List ℕ). Grows (g.D.Desk.sees c.args.desk.now) (g.D.Desk.sees c.end.new.desk) c.args.id t) (sym all)
           (grows_twice (g.D.Desk.sees c.args.desk.now) (g.D.Desk.sees c.next.new.desk) (g.D.Desk.sees c.end.new.desk) c.args.id inv.came left (grows_before (g.D.Desk.sees c.args.desk.now) (g.D.Desk.sees c.pictures.desk) (g.D.Desk.sees c.next.new.desk) c.args.id inv.came inv.grows c.next.ensures.kept c.next.ensures.count) c.in-Ok-end.ensures.added);
       count_is = inv.count;
+      few = omega (arith, inv.few, inv.count);
       all = λ files told.
           let bytes = bytes_at files (progress_of c.args.y4m.now).input in
           let gives : Follow (progress_of c.pictures.y4m) (bytes_at files (progress_of c.pictures.y4m).input) [] None = rw c.in-Ok-false.field-0-test at (c.in-Ok-false.ensures.gives files (ap {A = Meaning} (λ m. m.inputs) inv.grows.grown ∙ told)) in

@@ -1,15 +1,19 @@
-use Rattle.std.proofs.Common.{◌≡◌, ◌∙◌, ◌++◌, [], ℕ, Some, None, ap, sym, subst, inr, append_assoc}
+use Rattle.std.proofs.Common.{◌≡◌, ◌∙◌, ◌++◌, [], List, ℕ, Some, None, Ok, ap, sym, subst, inr, append_assoc}
 use Rattle.vid_desk.specs.Meaning.{Meaning, bytes_at}
-use Rattle.ogg_mux.specs.Muxing.{Muxing, rest_of}
+use Rattle.ogg_mux.specs.Muxing.{Muxing, least_body, rest_of}
+use Rattle.ogg_mux.specs.OutputPages.{paged}
+use Rattle.src_index.specs.Judge.{Judged}
 use Rattle.y4m_io.specs.Progress.{Follow, IsStart, progress_of}
 use Rattle.y4m_io.proofs.ReadingLemmas.{started_is}
 use Rattle.cut_desk.specs.Growing.{IsGrowing}
 use Rattle.cut_desk.specs.Outputs.{Makes}
 use Rattle.cut_desk.proofs.GrowingLemmas.{growing_more, growing_new, makes_grown}
 use Rattle.cut_import.specs.declared.importer.Importer.{Importer}
+use Rattle.cut_import.specs.Imported.{AreCodes, import_packets, import_shape, import_stream}
 use Rattle.cut_import.specs.Importers.{AddsSome, FollowFirst}
 use Rattle.cut_import.proofs.CodeLemmas.{codes_none, ready_first, some_more, taken}
 use Rattle.cut_import.proofs.FollowLemmas.{codes_head, makes_reads, no_bad_head, none_first, stand_first}
+use Rattle.cut_import.proofs.SoundLemmas.{import_judged}
 use Rattle.cut_import.proofs.importing.import.Goals as goal
 
 pub returns-in-Err-append-clause-part : goal.returns-in-Err-append-clause-part
@@ -69,16 +73,21 @@ returns-in-Ok-add_pictures-clause-written g c = λ files told.
     let headed : IsGrowing (g.D.Desk.sees c.start.new.desk) (g.D.Desk.sees c.append.new.desk) c.in-Ok-create.id c.args.out.now m.ready = growing_more (g.D.Desk.sees c.start.new.desk) (g.D.Desk.sees c.create.new.self) (g.D.Desk.sees c.append.new.desk) c.in-Ok-create.id c.args.out.now [] m.ready created c.in-Ok-append.ensures.added in
     let makes : Makes (g.D.Desk.sees c.args.desk.now) (g.D.Desk.sees c.add_pictures.new.desk) c.args.out.now (m.ready ++ (rest_of c.append.new.self.mux added.packets)) = makes_reads (g.D.Desk.sees c.args.desk.now) (g.D.Desk.sees c.start.new.desk) (g.D.Desk.sees c.add_pictures.new.desk) c.args.out.now (m.ready ++ (rest_of c.append.new.self.mux added.packets)) c.in-Ok.ensures.kept (makes_grown (g.D.Desk.sees c.start.new.desk) (g.D.Desk.sees c.add_pictures.new.desk) c.in-Ok-create.id c.args.out.now (m.ready ++ (rest_of c.append.new.self.mux added.packets)) (growing_more (g.D.Desk.sees c.start.new.desk) (g.D.Desk.sees c.append.new.desk) (g.D.Desk.sees c.add_pictures.new.desk) c.in-Ok-create.id c.args.out.now m.ready (rest_of c.append.new.self.mux added.packets) headed added.grows)) in
     let after : (g.D.Desk.sees c.append.new.desk).inputs ≡ Some files = ap {A = Meaning} (λ m. m.inputs) c.in-Ok-append.ensures.added.grown ∙ ap {A = Meaning} (λ m. m.inputs) c.in-Ok-create.ensures.made.0 ∙ ap {A = Meaning} (λ m. m.inputs) c.in-Ok.ensures.kept ∙ told in
-    let follow : Follow p bytes added.pictures None = subst (λ (n : ℕ). Follow p (bytes_at files n) added.pictures None) c.in-Ok.ensures.input.0 (added.all files after) in (
-      m.ready ++ rest_of c.append.new.self.mux added.packets,
+    let follow : Follow p bytes added.pictures None = subst (λ (n : ℕ). Follow p (bytes_at files n) added.pictures None) c.in-Ok.ensures.input.0 (added.all files after) in
+    let text : List ℕ = m.ready ++ rest_of c.append.new.self.mux added.packets in
+    let codes : AreCodes (import_shape p.head c.args.qi) c.args.qi c.args.keys None 0 added.pictures added.packets = rw (← c.head.ensures.value) (codes_head c.append.new.self c.head.result.now c.args.qi c.args.keys added.pictures added.packets
+        (ap {A = Importer} (λ i. i.encoder.shape) c.append.ensures.kept ∙ c.in-Ok-new-2.ensures.made.0) (ap {A = Importer} (λ i. i.qi) c.append.ensures.kept ∙ c.in-Ok-new-2.ensures.made.1) (ap {A = Importer} (λ i. i.keys) c.append.ensures.kept ∙ c.in-Ok-new-2.ensures.made.2) (ap {A = Importer} (λ i. i.encoder.state) c.append.ensures.kept ∙ c.in-Ok-new-2.ensures.state) added.codes) in
+    let is : text ≡ paged least_body (import_stream p.head c.args.qi) added.packets = ap {A = Importer} (λ i. m.ready ++ rest_of i.mux added.packets) c.append.ensures.kept ∙ taken m added.packets ∙ rw (← c.head.ensures.value) (c.in-Ok-new-2.ensures.stream added.packets) in
+    let judged = import_judged p.head c.args.qi c.args.keys added.pictures added.packets (rw (← c.head.ensures.value) c.in-Ok-new-2.ensures.reads) c.requires.keys.0 c.requires.keys.1 added.few codes in (
+      text,
       record {
         head = p.head;
         pictures = added.pictures;
         packets = added.packets;
         text = started_is bytes p added.pictures None started follow;
-        codes = rw (← c.head.ensures.value) (codes_head c.append.new.self c.head.result.now c.args.qi c.args.keys added.pictures added.packets
-            (ap {A = Importer} (λ i. i.encoder.shape) c.append.ensures.kept ∙ c.in-Ok-new-2.ensures.made.0) (ap {A = Importer} (λ i. i.qi) c.append.ensures.kept ∙ c.in-Ok-new-2.ensures.made.1) (ap {A = Importer} (λ i. i.keys) c.append.ensures.kept ∙ c.in-Ok-new-2.ensures.made.2) (ap {A = Importer} (λ i. i.encoder.state) c.append.ensures.kept ∙ c.in-Ok-new-2.ensures.state) added.codes);
-        written_is = ap {A = Importer} (λ i. m.ready ++ rest_of i.mux added.packets) c.append.ensures.kept ∙ taken m added.packets ∙ rw (← c.head.ensures.value) (c.in-Ok-new-2.ensures.stream added.packets);
+        codes = codes;
+        written_is = is;
+        well_formed = subst (λ (t : List ℕ). Judged t (Ok (import_packets p.head c.args.qi added.packets))) (sym is) judged;
         count_is = added.count_is;
       },
       makes,
