@@ -78,13 +78,13 @@ fn a_text_is_imported_with_its_key_frames(rt: HostRuntime) {
 #[test]
 fn an_even_picture_comes_back_as_its_quantiser_index_says(rt: HostRuntime) {
     for (luma, qi, shown) in [(128, "30", 128), (129, "49", 129), (129, "30", 128)] {
-        let text = text_of(&rt, &[luma]);
+        let text = text_of(&rt, &[luma, luma]);
         let mut desk = desk_of(&rt, "A", &text);
-        let words = ["import", "A", "B", qi, "1"];
-        let film = done(&rt, &mut desk, &words, "imported 1\n", "B");
+        let words = ["import", "A", "B", qi, "2"];
+        let film = done(&rt, &mut desk, &words, "imported 2\n", "B");
         let mut desk = desk_of(&rt, "B", &film);
-        let back = done(&rt, &mut desk, &["export", "B", "C"], "exported 1\n", "C");
-        assert!(rt; back == text_of(&rt, &[shown]), "{luma} {qi}");
+        let back = done(&rt, &mut desk, &["export", "B", "C"], "exported 2\n", "C");
+        assert!(rt; back == text_of(&rt, &[shown, shown]), "{luma} {qi}");
     }
 }
 
