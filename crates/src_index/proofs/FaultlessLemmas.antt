@@ -182,7 +182,8 @@ pub record Headed (packets : List (List ℕ)) : Type 0 where
   pub setup : setup_of (packet_at packets 2) ≡ Ok contents
   pub frames : packets_over 0 3 None (WithSetup header contents) (frames_of packets) ≡ Ok said
 
-no_key : (key : Bool) (last : Option ℕ) → (if key && false then Some 0 else last) ≡ last
+-- a header is no key frame
+pub no_key : (key : Bool) (last : Option ℕ) → (if key && false then Some 0 else last) ≡ last
 no_key true last = refl
 no_key false last = refl
 

@@ -3,6 +3,7 @@ pub mod CheckLemmas
 mod PieceLemmas
 pub mod SpacingLemmas
 pub mod FaultlessLemmas
+pub mod SoundLemmas
 pub mod WrittenLemmas
 mod PagesLemmas
 mod AheadLemmas

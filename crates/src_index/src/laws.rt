@@ -62,3 +62,13 @@ pub fn faultless_tracks()
         → IsOk (state_after contents (shape_of header) None (frames_of packets)) }
     ensures quantisers { (before : ℕ) (packets : List (List ℕ)) → before < 64 → All (λ quantiser. quantiser < 64) (quantisers before packets) }
 {}
+
+/// The packets of a track have no fault where its three headers are sound, no packet is too long, there are not too many frames,
+/// each frame decodes from the state of those before it, the first is a key frame, and each stands near its key frame.
+pub fn sound_tracks()
+    ensures { (ident comment setup : List ℕ) (frames : List (List ℕ)) (header : Header) (contents : Contents)
+        → ident_of ident ≡ Ok header → IsOk (comment_of comment) → setup_of setup ≡ Ok contents
+        → All (λ packet. length packet ≤ 2 ^ 30) (ident ∷ comment ∷ setup ∷ frames) → length frames ≤ 2 ^ 24
+        → AreSpaced header.shift (map is_key frames) → IsOk (state_after contents (shape_of header) None frames)
+        → AreFaultless (ident ∷ comment ∷ setup ∷ frames) }
+{}
