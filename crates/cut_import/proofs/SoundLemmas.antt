@@ -18,7 +18,7 @@ use Rattle.thr_frame.specs.Rebuilt.{Pair}
 use Rattle.thr_frame.specs.Step.{state_after}
 use Rattle.src_index.specs.Checks.{AreFaultless}
 use Rattle.src_index.specs.Judge.{Judged}
-use Rattle.src_index.proofs.SoundLemmas.{faultless_parts}
+use Rattle.src_index.proofs.SoundLemmas.{sound_track}
 use Rattle.src_index.proofs.WrittenLemmas.{stream_judged}
 use Rattle.y4m_io.specs.declared.head.Head.{Head}
 use Rattle.y4m_io.specs.Pictures.{Samples}
@@ -86,5 +86,5 @@ import_judged h qi keys pictures packets reads some few count codes =
       close = codes_close s qi keys 0 0 None pictures packets some few (λ later. absurd (omega (arith, later))) codes;
     } in
     let faultless : AreFaultless (import_packets h qi packets) =
-        faultless_parts (header_bytes (import_header h qi)) own_comment (packet_of imported) packets (import_header h qi) imported reads comment_sound setup_reads short fits spaced (codes_decode s qi keys 0 None pictures packets codes) in
+        sound_track (header_bytes (import_header h qi)) own_comment (packet_of imported) packets (import_header h qi) imported reads comment_sound setup_reads short fits spaced (codes_decode s qi keys 0 None pictures packets codes) in
     stream_judged least_body (import_stream h qi) packets (import_header h qi) (record { serial = omega arith; shift = omega arith; base = omega arith; count = fits }) (omega (arith, long)) reads refl faultless
