@@ -1,5 +1,5 @@
 -- The headers of streams that are made here: what they say, and that they are short. `SoundLemmas` cites these.
-use Rattle.std.proofs.Common.{◌≡◌, ℕ, zero, suc, ◌+◌, ◌*◌, ◌%◌, ◌^◌, ◌≤◌, Bool, true, false, cond, nat_eq, List, [], ◌∷◌, ◌++◌, length, length-append, map, Ok, IsOk, refl, ap, ◌∙◌, arith}
+use Rattle.std.proofs.Common.{◌≡◌, ℕ, ◌*◌, ◌%◌, ◌^◌, ◌≤◌, Bool, true, false, cond, nat_eq, List, [], ◌∷◌, ◌++◌, length, length-append, map, IsOk, refl, ap, arith}
 use Rattle.std.specs.Int.Count.{count_leading_zeros}
 use Rattle.std.specs.List.{flat_map, range_with_len}
 use Rattle.vid_base.specs.Bits.{digits, to_byte, zeros}
@@ -10,11 +10,10 @@ use Rattle.thr_ident.specs.Comment.{after_comments, after_text, after_texts, com
 use Rattle.thr_quant.specs.Limits.{limits_bits, width_of}
 use Rattle.thr_quant.specs.Ramps.{matrices_bits, matrix_list_bits, pair_bits, pairs_bits, ramps_bits, scales_bits}
 use Rattle.thr_quant.specs.Ranges.{list_bits, range_bits, ranges_bits}
-use Rattle.thr_huff.specs.CodeTree.{CodeTree}
 use Rattle.thr_huff.specs.Trees.{forest_bits, tree_bits}
 use Rattle.thr_setup.specs.Import.{even_scales, import_limits, import_matrix, import_ramps, imported}
 use Rattle.thr_setup.specs.ImportTrees.{counting_up, import_forest, import_tree, ranked_tree}
-use Rattle.thr_setup.specs.Setup.{bytes_of, fields_bits, filled, packet_of, setup_name}
+use Rattle.thr_setup.specs.Setup.{bytes_of, fields_bits, filled, packet_of}
 use Rattle.thr_setup.specs.Tables.{by_rank_1, by_rank_2, by_rank_3, in_order}
 
 -- a tree of 32 tokens has 31 forks and 32 leaves of six bits

@@ -1,4 +1,5 @@
 pub mod CodeLemmas
 pub mod FollowLemmas
 pub mod HeaderLemmas
+pub mod RefusedLemmas
 pub mod SoundLemmas

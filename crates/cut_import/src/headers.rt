@@ -1,10 +1,10 @@
 // The headers of a stream that is made from pictures (own).
-ghost use Rattle.std.specs.Prelude.{◌≡◌, ◌+◌, ◌/◌, ◌<◌, ◌≤◌, List, ℕ, IfOk, Ok, false};
+ghost use Rattle.std.specs.Prelude.{◌≡◌, ◌+◌, ◌/◌, ◌<◌, ◌≤◌, List, ℕ, IfOk, false};
 ghost use Rattle.ogg_mux.specs.Muxing.{least_body, rest_of};
 ghost use Rattle.ogg_mux.specs.OutputPages.{paged};
 ghost use Rattle.thr_ident.specs.Comment.{own_comment};
 ghost use Rattle.thr_ident.specs.Header.{header_bytes};
-ghost use Rattle.thr_ident.specs.Ident.{header_of, ident_of};
+ghost use Rattle.thr_ident.specs.Ident.{header_of};
 ghost use Rattle.thr_setup.specs.Setup.{contents, packet_of};
 ghost use Rattle.y4m_io.specs.HeadLine.{IsHead};
 ghost use Rattle.cut_import.specs.Imported.{import_header};
@@ -64,7 +64,6 @@ pub(crate) fn ident_of(head: Head, qi: u8) -> Ident
 pub(crate) fn stream_of(alloc: Global, ident: &Ident, setup: &Setup) -> Result<Mux, NoMem>
     ensures all { IfOk result (λ mux. (packets : List (List ℕ)) → rest_of mux packets
         ≡ paged least_body (record { ident = header_bytes (header_of ident.now); comment = own_comment; setup = packet_of (contents setup.now); serial = 1; shift = 6; base = 1 }) packets) }
-    ensures reads { IfOk result (λ mux. ident_of (header_bytes (header_of ident.now)) ≡ Ok (header_of ident.now)) }
     ensures frames { IfOk result (λ mux. mux.frames ≡ 0) }
     ensures shift { IfOk result (λ mux. mux.shift ≡ 6) }
     ensures open { IfOk result (λ mux. mux.finished ≡ false) }

@@ -1,18 +1,20 @@
-use Rattle.std.proofs.Common.{◌≡◌, ◌∙◌, ◌++◌, [], List, ℕ, Some, None, Ok, ap, sym, subst, inr, append_assoc}
+use Rattle.std.proofs.Common.{◌≡◌, ◌∙◌, ◌++◌, [], List, ℕ, Some, None, Ok, ap, sym, subst, inl, inr, arith, append_assoc}
 use Rattle.vid_desk.specs.Meaning.{Meaning, bytes_at}
 use Rattle.ogg_mux.specs.Muxing.{Muxing, least_body, rest_of}
 use Rattle.ogg_mux.specs.OutputPages.{paged}
 use Rattle.src_index.specs.Judge.{Judged}
 use Rattle.y4m_io.specs.Progress.{Follow, IsStart, progress_of}
 use Rattle.y4m_io.proofs.ReadingLemmas.{started_is}
+use Rattle.cut_report.specs.declared.status.Status.TheVariants.{ReadFault, WriteFault}
 use Rattle.cut_desk.specs.Growing.{IsGrowing}
 use Rattle.cut_desk.specs.Outputs.{Makes}
-use Rattle.cut_desk.proofs.GrowingLemmas.{growing_more, growing_new, makes_grown}
+use Rattle.cut_desk.proofs.GrowingLemmas.{growing_more, growing_new, growing_same, makes_grown}
 use Rattle.cut_import.specs.declared.importer.Importer.{Importer}
 use Rattle.cut_import.specs.Imported.{AreCodes, import_packets, import_shape, import_stream}
 use Rattle.cut_import.specs.Importers.{AddsSome, FollowFirst}
 use Rattle.cut_import.proofs.CodeLemmas.{codes_none, ready_first, some_more, taken}
 use Rattle.cut_import.proofs.FollowLemmas.{codes_head, makes_reads, no_bad_head, none_first, stand_first}
+use Rattle.cut_import.proofs.RefusedLemmas.{none_made, none_read, none_same, reads_same, rose_since, writing_not_bad, writing_not_read, writing_only, writing_rose}
 use Rattle.cut_import.proofs.SoundLemmas.{import_judged}
 use Rattle.cut_import.proofs.importing.import.Goals as goal
 
@@ -76,7 +78,7 @@ returns-in-Ok-add_pictures-clause-written g c = λ files told.
     let follow : Follow p bytes added.pictures None = subst (λ (n : ℕ). Follow p (bytes_at files n) added.pictures None) c.in-Ok.ensures.input.0 (added.all files after) in
     let text : List ℕ = m.ready ++ rest_of c.append.new.self.mux added.packets in
     let codes : AreCodes (import_shape p.head c.args.qi) c.args.qi c.args.keys None 0 added.pictures added.packets = rw (← c.head.ensures.value) (codes_head c.append.new.self c.head.result.now c.args.qi c.args.keys added.pictures added.packets
-        (ap {A = Importer} (λ i. i.encoder.shape) c.append.ensures.kept ∙ c.in-Ok-new-2.ensures.made.0) (ap {A = Importer} (λ i. i.qi) c.append.ensures.kept ∙ c.in-Ok-new-2.ensures.made.1) (ap {A = Importer} (λ i. i.keys) c.append.ensures.kept ∙ c.in-Ok-new-2.ensures.made.2) (ap {A = Importer} (λ i. i.encoder.state) c.append.ensures.kept ∙ c.in-Ok-new-2.ensures.state) added.codes) in
+    (ap {A = Importer} (λ i. i.encoder.shape) c.append.ensures.kept ∙ c.in-Ok-new-2.ensures.made.0) (ap {A = Importer} (λ i. i.qi) c.append.ensures.kept ∙ c.in-Ok-new-2.ensures.made.1) (ap {A = Importer} (λ i. i.keys) c.append.ensures.kept ∙ c.in-Ok-new-2.ensures.made.2) (ap {A = Importer} (λ i. i.encoder.state) c.append.ensures.kept ∙ c.in-Ok-new-2.ensures.state) added.codes) in
     let is : text ≡ paged least_body (import_stream p.head c.args.qi) added.packets = ap {A = Importer} (λ i. m.ready ++ rest_of i.mux added.packets) c.append.ensures.kept ∙ taken m added.packets ∙ rw (← c.head.ensures.value) (c.in-Ok-new-2.ensures.stream added.packets) in
     let judged = import_judged p.head c.args.qi c.args.keys added.pictures added.packets (rw (← c.head.ensures.value) c.in-Ok-new-2.ensures.reads) c.requires.keys.0 c.requires.keys.1 added.few codes in (
       text,
@@ -152,3 +154,69 @@ returns-clause-departs g c = λ frame why err files told.
 
 pub returns-clause-head : goal.returns-clause-head
 returns-clause-head g c = λ why files told bad. absurd (no_bad_head (bytes_at files c.args.input) (progress_of c.in-Ok.y4m) why (c.in-Ok.ensures.started files told) bad)
+
+pub returns-in-Err-create-clause-part : goal.returns-in-Err-create-clause-part
+returns-in-Err-create-clause-part g c = λ files told. inl (none_made (g.D.Desk.sees c.args.desk.now) (g.D.Desk.sees c.start.new.desk) (g.D.Desk.sees c.create.new.self) c.args.out.now c.in-Err-create.fault c.in-Ok.ensures.kept c.in-Err-create.ensures.made)
+
+pub returns-in-Err-create-clause-departs : goal.returns-in-Err-create-clause-departs
+returns-in-Err-create-clause-departs g c = λ frame why err files told. absurd (writing_not_bad c.writing.result c.in-Err-create.fault frame why c.writing.ensures err)
+
+pub returns-in-Err-create-clause-head : goal.returns-in-Err-create-clause-head
+returns-in-Err-create-clause-head g c = λ why files told bad. absurd (no_bad_head (bytes_at files c.args.input) (progress_of c.in-Ok.y4m) why (c.in-Ok.ensures.started files told) bad)
+
+pub returns-in-Err-create-clause-outputs : goal.returns-in-Err-create-clause-outputs
+returns-in-Err-create-clause-outputs g c = inl (none_made (g.D.Desk.sees c.args.desk.now) (g.D.Desk.sees c.start.new.desk) (g.D.Desk.sees c.create.new.self) c.args.out.now c.in-Err-create.fault c.in-Ok.ensures.kept c.in-Err-create.ensures.made)
+
+pub returns-in-Err-create-clause-kept : goal.returns-in-Err-create-clause-kept
+returns-in-Err-create-clause-kept g c = none_same (g.D.Desk.sees c.args.desk.now) (g.D.Desk.sees c.start.new.desk) (g.D.Desk.sees c.create.new.self) c.args.out.now c.in-Err-create.fault c.in-Ok.ensures.kept c.in-Err-create.ensures.made
+
+pub returns-in-Err-create-clause-reads : goal.returns-in-Err-create-clause-reads
+returns-in-Err-create-clause-reads g c = omega (arith, c.in-Ok.ensures.count, none_read (g.D.Desk.sees c.start.new.desk) (g.D.Desk.sees c.create.new.self) c.args.out.now c.in-Err-create.fault c.in-Err-create.ensures.made)
+
+pub returns-in-Err-create-clause-read : goal.returns-in-Err-create-clause-read
+returns-in-Err-create-clause-read g c = λ err. absurd (writing_not_read c.writing.result c.in-Err-create.fault c.writing.ensures err)
+
+pub returns-in-Err-create-clause-write : goal.returns-in-Err-create-clause-write
+returns-in-Err-create-clause-write g c =
+    let same : (g.D.Desk.sees c.start.new.desk).write_faults ≡ (g.D.Desk.sees c.args.desk.now).write_faults = ap {A = Meaning} (λ m. m.write_faults) c.in-Ok.ensures.kept in
+    writing_rose (g.D.Desk.sees c.args.desk.now).write_faults (g.D.Desk.sees c.start.new.desk).write_faults (g.D.Desk.sees c.create.new.self).write_faults c.writing.result c.in-Err-create.fault (omega (arith, same)) c.writing.ensures c.in-Err-create.ensures.cause
+
+pub returns-in-Err-create-clause-only : goal.returns-in-Err-create-clause-only
+returns-in-Err-create-clause-only g c = writing_only c.writing.result c.in-Err-create.fault c.writing.ensures
+
+pub returns-in-Err-append-clause-write : goal.returns-in-Err-append-clause-write
+returns-in-Err-append-clause-write g c =
+    let same : (g.D.Desk.sees c.start.new.desk).write_faults ≡ (g.D.Desk.sees c.args.desk.now).write_faults = ap {A = Meaning} (λ m. m.write_faults) c.in-Ok.ensures.kept in
+    rose_since (g.D.Desk.sees c.args.desk.now).write_faults (g.D.Desk.sees c.create.new.self).write_faults (g.D.Desk.sees c.append.new.desk).write_faults c.in-Err-append.status WriteFault (omega (arith, same, c.in-Ok-create.ensures.cause.later)) c.in-Err-append.ensures.cause
+
+pub returns-in-Ok-add_pictures-clause-kept : goal.returns-in-Ok-add_pictures-clause-kept
+returns-in-Ok-add_pictures-clause-kept g c =
+    let added = c.in-Ok-add_pictures.ensures.added in
+    let m : Muxing = c.in-Ok-new-2.importer.mux in
+    let came : List ℕ = rest_of c.append.new.self.mux added.packets in
+    let created : IsGrowing (g.D.Desk.sees c.start.new.desk) (g.D.Desk.sees c.create.new.self) c.in-Ok-create.id c.args.out.now [] = growing_new (g.D.Desk.sees c.start.new.desk) (g.D.Desk.sees c.create.new.self) c.in-Ok-create.id c.args.out.now c.in-Ok-create.ensures.made c.create.ensures.cause.later in
+    let headed : IsGrowing (g.D.Desk.sees c.start.new.desk) (g.D.Desk.sees c.append.new.desk) c.in-Ok-create.id c.args.out.now m.ready = growing_more (g.D.Desk.sees c.start.new.desk) (g.D.Desk.sees c.create.new.self) (g.D.Desk.sees c.append.new.desk) c.in-Ok-create.id c.args.out.now [] m.ready created c.in-Ok-append.ensures.added in
+    reads_same (g.D.Desk.sees c.args.desk.now) (g.D.Desk.sees c.start.new.desk) (g.D.Desk.sees c.add_pictures.new.desk) c.in-Ok.ensures.kept
+    (growing_same (g.D.Desk.sees c.start.new.desk) (g.D.Desk.sees c.add_pictures.new.desk) c.in-Ok-create.id c.args.out.now (m.ready ++ came)
+    (growing_more (g.D.Desk.sees c.start.new.desk) (g.D.Desk.sees c.append.new.desk) (g.D.Desk.sees c.add_pictures.new.desk) c.in-Ok-create.id c.args.out.now m.ready came headed added.grows))
+
+pub returns-clause-kept : goal.returns-clause-kept
+returns-clause-kept g c =
+    let added = c.in-Err-add_pictures.ensures.part in
+    let m : Muxing = c.in-Ok-new-2.importer.mux in
+    let came : List ℕ = added.some.came in
+    let created : IsGrowing (g.D.Desk.sees c.start.new.desk) (g.D.Desk.sees c.create.new.self) c.in-Ok-create.id c.args.out.now [] = growing_new (g.D.Desk.sees c.start.new.desk) (g.D.Desk.sees c.create.new.self) c.in-Ok-create.id c.args.out.now c.in-Ok-create.ensures.made c.create.ensures.cause.later in
+    let headed : IsGrowing (g.D.Desk.sees c.start.new.desk) (g.D.Desk.sees c.append.new.desk) c.in-Ok-create.id c.args.out.now m.ready = growing_more (g.D.Desk.sees c.start.new.desk) (g.D.Desk.sees c.create.new.self) (g.D.Desk.sees c.append.new.desk) c.in-Ok-create.id c.args.out.now [] m.ready created c.in-Ok-append.ensures.added in
+    reads_same (g.D.Desk.sees c.args.desk.now) (g.D.Desk.sees c.start.new.desk) (g.D.Desk.sees c.add_pictures.new.desk) c.in-Ok.ensures.kept
+    (growing_same (g.D.Desk.sees c.start.new.desk) (g.D.Desk.sees c.add_pictures.new.desk) c.in-Ok-create.id c.args.out.now (m.ready ++ came)
+    (growing_more (g.D.Desk.sees c.start.new.desk) (g.D.Desk.sees c.append.new.desk) (g.D.Desk.sees c.add_pictures.new.desk) c.in-Ok-create.id c.args.out.now m.ready came headed added.some.grows))
+
+pub returns-clause-read : goal.returns-clause-read
+returns-clause-read g c =
+    let created : (g.D.Desk.sees c.create.new.self).read_faults ≡ (g.D.Desk.sees c.start.new.desk).read_faults = ap {A = Meaning} (λ m. m.read_faults) c.in-Ok-create.ensures.made.0 in
+    rose_since (g.D.Desk.sees c.args.desk.now).read_faults (g.D.Desk.sees c.append.new.desk).read_faults (g.D.Desk.sees c.add_pictures.new.desk).read_faults c.in-Err-add_pictures.status ReadFault (omega (arith, c.in-Ok.ensures.count, created, c.in-Ok-append.ensures.added.read_later)) c.in-Err-add_pictures.ensures.read
+
+pub returns-clause-write : goal.returns-clause-write
+returns-clause-write g c =
+    let same : (g.D.Desk.sees c.start.new.desk).write_faults ≡ (g.D.Desk.sees c.args.desk.now).write_faults = ap {A = Meaning} (λ m. m.write_faults) c.in-Ok.ensures.kept in
+    rose_since (g.D.Desk.sees c.args.desk.now).write_faults (g.D.Desk.sees c.append.new.desk).write_faults (g.D.Desk.sees c.add_pictures.new.desk).write_faults c.in-Err-add_pictures.status WriteFault (omega (arith, same, c.in-Ok-create.ensures.cause.later, c.in-Ok-append.ensures.added.write_later)) c.in-Err-add_pictures.ensures.write
