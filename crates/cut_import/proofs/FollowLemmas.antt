@@ -2,7 +2,7 @@
 use Rattle.std.proofs.Common.{◌≡◌, ◌∙◌, ℕ, ◌+◌, ◌≤◌, List, [], ◌∷◌, ◌++◌, length, Option, None, refl, ap, sym, subst, arith, append_assoc, length-append}
 use Rattle.std.proofs.lemmas.List.{append-nil}
 use Rattle.vid_base.specs.declared.shape.Shape.{Shape}
-use Rattle.vid_desk.specs.Meaning.{File, Meaning, with_last, with_reads}
+use Rattle.vid_desk.specs.Meaning.{File, Meaning, Told, bytes_at, with_last, with_reads}
 use Rattle.thr_frame.specs.Rebuilt.{Pair}
 use Rattle.y4m_io.specs.declared.fault.Y4mWhy.{Y4mWhy}
 use Rattle.y4m_io.specs.declared.head.Head.{Head}
@@ -89,3 +89,11 @@ makes_reads old mid new name bytes kept makes = record {
 pub codes_head : (i : Importer) (head : Head) (qi keys : ℕ) (pictures : List Samples) (packets : List (List ℕ)) → i.encoder.shape ≡ import_shape head qi → i.qi ≡ qi → i.keys ≡ keys → i.encoder.state ≡ None
     → CodesAll i pictures packets → AreCodes (import_shape head qi) qi keys None 0 pictures packets
 codes_head i head qi keys pictures packets shape same_qi same_keys state codes = rw (shape, same_qi, same_keys, state) at codes
+
+-- the same of one that has given pages away
+pub codes_kept : (old now : Importer) (pictures : List Samples) (packets : List (List ℕ)) → now ≡ record old { mux = record old.mux { ready = [] } } → CodesAll now pictures packets → CodesAll old pictures packets
+codes_kept old now pictures packets kept codes = subst (λ (i : Importer). CodesAll i pictures packets) kept codes
+
+-- before a picture is read none follows first
+pub none_read_first : (m : Meaning) (p : Progress) → p.frames ≡ 0 → p.bad ≡ None → Told m p.input (λ bytes. FollowFirst bytes p [])
+none_read_first m p start sound = λ files told. read_first (bytes_at files p.input) p p [] sound refl start (λ more bad follow. follow)

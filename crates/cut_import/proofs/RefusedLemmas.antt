@@ -1,16 +1,21 @@
--- What is left where an output could not be created, and counts and statuses of calls one after another. `import` cites these.
-use Rattle.std.proofs.Common.{◌≡◌, ◌∙◌, ℕ, ◌≤◌, List, Err, ap, arith, inl, inr, refl, subst}
-use Rattle.std.specs.Result.{IsErrOf}
+-- What is left where an output could not be created, and counts and statuses of calls one after another. `write_film` and `import` cite these.
+use Rattle.std.proofs.Common.{◌≡◌, ◌∙◌, ℕ, ◌≤◌, ◌⊎◌, List, Option, Result, Ok, Err, ap, arith, inl, inr, refl, subst}
+use Rattle.std.specs.Result.{IfOk, IsErrOf, OnErr}
 use Rattle.vid_desk.specs.Meaning.{Creates, HasCause, Meaning, Rose, with_last, with_reads}
 use Rattle.vid_desk.specs.declared.fault.DeskFault.{DeskFault}
 use Rattle.vid_desk.specs.declared.fault.DeskFault.TheVariants.{Failed, NoMem as NoRoom}
+use Rattle.ogg_mux.specs.Muxing.{rest_of}
 use Rattle.cut_report.specs.declared.status.Status.{Status}
 use Rattle.cut_report.specs.declared.status.Status.TheVariants.{BadY4m, ReadFault, WriteFault}
 use Rattle.cut_desk.specs.Growing.{ReadsAndMakes}
-use Rattle.cut_desk.specs.Outputs.{MakesNone}
+use Rattle.cut_desk.specs.Outputs.{MakesAtMost, MakesNone}
 use Rattle.cut_desk.specs.Statuses.{writing_status}
 use Rattle.y4m_io.specs.declared.fault.Y4mWhy.{Y4mWhy}
+use Rattle.y4m_io.specs.Progress.{Progress}
+use Rattle.cut_import.specs.declared.importer.Importer.{Importer}
+use Rattle.cut_import.specs.Importers.{LeavesFirst, WritesFilm}
 use Rattle.cut_import.specs.Statuses.{IsImporting}
+use Rattle.cut_import.proofs.FollowLemmas.{makes_reads}
 
 -- a count that rose later rose
 pub rose_later : (first mid last : ℕ) → first ≤ mid → Rose mid last → Rose first last
@@ -27,22 +32,13 @@ reads_same old mid new kept same =
     subst (λ (m : Meaning). new ≡ record m { outputs = new.outputs; named = new.named; read_faults = new.read_faults; write_faults = new.write_faults; asked = new.asked; made = new.made }) kept same
 
 -- an output that could not be created
-created_same : (mid new : Meaning) (name : List ℕ) (fault : DeskFault) → Creates mid new name (Err fault) → ReadsAndMakes mid new
-created_same mid new name Failed made = rw (ap {A = Meaning} (λ m. m.inputs) made, ap {A = Meaning} (λ m. m.outputs) made, ap {A = Meaning} (λ m. m.said) made, ap {A = Meaning} (λ m. m.sought) made, ap {A = Meaning} (λ m. m.named) made, ap {A = Meaning} (λ m. m.read_faults) made, ap {A = Meaning} (λ m. m.asked) made, ap {A = Meaning} (λ m. m.found) made) refl
-created_same mid new name NoRoom made = rw (ap {A = Meaning} (λ m. m.inputs) made, ap {A = Meaning} (λ m. m.outputs) made, ap {A = Meaning} (λ m. m.said) made, ap {A = Meaning} (λ m. m.sought) made, ap {A = Meaning} (λ m. m.named) made, ap {A = Meaning} (λ m. m.read_faults) made, ap {A = Meaning} (λ m. m.asked) made, ap {A = Meaning} (λ m. m.found) made) refl
+pub none_same : (mid new : Meaning) (name : List ℕ) (fault : DeskFault) → Creates mid new name (Err fault) → ReadsAndMakes mid new
+none_same mid new name Failed made = rw (ap {A = Meaning} (λ m. m.inputs) made, ap {A = Meaning} (λ m. m.outputs) made, ap {A = Meaning} (λ m. m.said) made, ap {A = Meaning} (λ m. m.sought) made, ap {A = Meaning} (λ m. m.named) made, ap {A = Meaning} (λ m. m.read_faults) made, ap {A = Meaning} (λ m. m.asked) made, ap {A = Meaning} (λ m. m.found) made) refl
+none_same mid new name NoRoom made = rw (ap {A = Meaning} (λ m. m.inputs) made, ap {A = Meaning} (λ m. m.outputs) made, ap {A = Meaning} (λ m. m.said) made, ap {A = Meaning} (λ m. m.sought) made, ap {A = Meaning} (λ m. m.named) made, ap {A = Meaning} (λ m. m.read_faults) made, ap {A = Meaning} (λ m. m.asked) made, ap {A = Meaning} (λ m. m.found) made) refl
 
-pub none_same : (old mid new : Meaning) (name : List ℕ) (fault : DeskFault) → with_reads old mid → Creates mid new name (Err fault) → ReadsAndMakes old new
-none_same old mid new name fault kept made = reads_same old mid new kept (created_same mid new name fault made)
-
-pub none_made : (old mid new : Meaning) (name : List ℕ) (fault : DeskFault) → with_reads old mid → Creates mid new name (Err fault) → MakesNone old new name
-none_made old mid new name Failed kept made = record {
-  outputs = ap {A = Meaning} (λ m. m.outputs) made ∙ ap {A = Meaning} (λ m. m.outputs) kept;
-  asked_for = inr (ap {A = Meaning} (λ m. m.named) made ∙ ap {A = Meaning} (λ m. with_last m.named name) kept);
-}
-none_made old mid new name NoRoom kept made = record {
-  outputs = ap {A = Meaning} (λ m. m.outputs) made ∙ ap {A = Meaning} (λ m. m.outputs) kept;
-  asked_for = inl (ap {A = Meaning} (λ m. m.named) made ∙ ap {A = Meaning} (λ m. m.named) kept);
-}
+pub none_made : (mid new : Meaning) (name : List ℕ) (fault : DeskFault) → Creates mid new name (Err fault) → MakesNone mid new name
+none_made mid new name Failed made = record { outputs = ap {A = Meaning} (λ m. m.outputs) made; asked_for = inr (ap {A = Meaning} (λ m. m.named) made) }
+none_made mid new name NoRoom made = record { outputs = ap {A = Meaning} (λ m. m.outputs) made; asked_for = inl (ap {A = Meaning} (λ m. m.named) made) }
 
 -- which reads nothing
 pub none_read : (mid new : Meaning) (name : List ℕ) (fault : DeskFault) → Creates mid new name (Err fault) → new.read_faults ≡ mid.read_faults
@@ -62,6 +58,19 @@ pub writing_not_bad : {A : Type 0} (status : Status) (fault : DeskFault) (frame 
 writing_not_bad status Failed frame why is e = cc
 writing_not_bad status NoRoom frame why is e = cc
 
-pub writing_rose : {A B : Type 0} (first before now : ℕ) (status : Status) (fault : DeskFault) → first ≤ before → status ≡ writing_status fault → HasCause {A = B} before now (Err fault) → IsErrOf {T = A} (Err status) WriteFault → Rose first now
-writing_rose first before now status Failed later is cause e = rose_later first before now later (cause.failed refl)
-writing_rose first before now status NoRoom later is cause e = absurd cc
+pub writing_rose : {A B : Type 0} (before now : ℕ) (status : Status) (fault : DeskFault) → status ≡ writing_status fault → HasCause {A = B} before now (Err fault) → IsErrOf {T = A} (Err status) WriteFault → Rose before now
+writing_rose before now status Failed is cause e = cause.failed refl
+writing_rose before now status NoRoom is cause e = absurd cc
+
+-- what was left of outputs since inputs were read
+pub none_reads : (old mid new : Meaning) (name : List ℕ) → with_reads old mid → MakesNone mid new name → MakesNone old new name
+none_reads old mid new name kept none = record {
+  outputs = none.outputs ∙ ap {A = Meaning} (λ m. m.outputs) kept;
+  asked_for = subst (λ (names : Option (List (List ℕ))). (new.named ≡ names) ⊎ (new.named ≡ with_last names name)) (ap {A = Meaning} (λ m. m.named) kept) none.asked_for;
+}
+
+-- at most one output was created since then
+pub at_most : (old mid new : Meaning) (name : List ℕ) (i : Importer) (p : Progress) (result : Result ℕ Status) → with_reads old mid → IfOk result (WritesFilm mid new name i p) → OnErr result (LeavesFirst mid new name i p) → MakesAtMost old new name
+at_most old mid new name i p (Ok count) kept film left = inr (rest_of i.mux film.packets, makes_reads old mid new name (rest_of i.mux film.packets) kept film.makes)
+at_most old mid new name i p (Err status) kept film (inl none) = inl (none_reads old mid new name kept none)
+at_most old mid new name i p (Err status) kept film (inr first) = inr (first.came, makes_reads old mid new name first.came kept first.makes)

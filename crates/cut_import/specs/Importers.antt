@@ -8,6 +8,7 @@ use Rattle.y4m_io.specs.Pictures.{Samples}
 use Rattle.y4m_io.specs.Progress.{Follow, Progress}
 use Rattle.y4m_io.specs.Reading.{Departure, GoesOn}
 use Rattle.cut_desk.specs.Growing.{Grows}
+use Rattle.cut_desk.specs.Outputs.{Makes, MakesNone}
 use Rattle.cut_import.specs.declared.importer.Importer.{Importer}
 use Rattle.cut_import.specs.Imported.{AreCodes, Codes}
 
@@ -89,3 +90,28 @@ pub record AddsFirst (old new : Meaning) (id : ℕ) (i : Importer) (p : Progress
   pub codes : CodesAll i pictures packets
   pub some : AddsSome old new id (rest_of i.mux packets)
   pub first : Told old p.input (λ bytes. FollowFirst bytes p pictures)
+
+-- all pictures that follow in an input were coded, and an output was created that holds their pages
+pub record WritesFilm (old new : Meaning) (name : List ℕ) (i : Importer) (p : Progress) (count : ℕ) : Type 0 where
+  pub pictures : List Samples
+  pub packets : List (List ℕ)
+  pub codes : CodesAll i pictures packets
+  pub makes : Makes old new name (rest_of i.mux packets)
+  pub count_is : count ≡ length pictures
+  pub few : length pictures ≤ 2 ^ 24
+  pub all : Told old p.input (λ bytes. Follow p bytes pictures None)
+
+-- some pictures that follow first were coded, and an output was created that holds a first part of their pages
+pub record WritesFirst (old new : Meaning) (name : List ℕ) (i : Importer) (p : Progress) : Type 0 where
+  pub pictures : List Samples
+  pub packets : List (List ℕ)
+  pub codes : CodesAll i pictures packets
+  pub came : List ℕ
+  pub rest : List ℕ
+  pub part : rest_of i.mux packets ≡ came ++ rest
+  pub makes : Makes old new name came
+  pub first : Told old p.input (λ bytes. FollowFirst bytes p pictures)
+
+-- that, or no output was created
+abbrev pub LeavesFirst : Meaning → Meaning → List ℕ → Importer → Progress → Type 0
+LeavesFirst old new name i p = MakesNone old new name ⊎ WritesFirst old new name i p

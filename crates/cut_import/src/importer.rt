@@ -53,20 +53,19 @@ impl Importer {
     {
         let ident = ident_of(*head, qi);
         let setup = import_setup(alloc)?;
-        let encoder = match Encoder::new(alloc, &ident, &setup) {
-            Ok(encoder) => encoder,
-            Err(EncFault::NoFullTables | EncFault::NoMem) => return Err(NoMem),
-        };
-        let mux = stream_of(alloc, &ident, &setup)?;
         let target = Frame::new(alloc, ident.shape())?;
-        Ok(Importer {
-            encoder,
-            target,
-            packet: Vec::new(alloc),
-            mux,
-            qi,
-            keys,
-        })
+        let mux = stream_of(alloc, &ident, &setup)?;
+        match Encoder::new(alloc, &ident, &setup) {
+            Ok(encoder) => Ok(Importer {
+                encoder,
+                target,
+                packet: Vec::new(alloc),
+                mux,
+                qi,
+                keys,
+            }),
+            Err(EncFault::NoFullTables | EncFault::NoMem) => Err(NoMem),
+        }
     }
 
     // Codes a picture as frame n, and answers whether it is a key frame.

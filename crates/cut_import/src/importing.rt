@@ -8,7 +8,7 @@ ghost use Rattle.y4m_io.specs.Pictures.{IsPictureOf, IsSize, Samples, samples_of
 ghost use Rattle.y4m_io.specs.Progress.{Follow, IsOfInput, progress_of};
 ghost use Rattle.y4m_io.specs.Reading.{HasBadHead};
 ghost use Rattle.cut_import.specs.Imported.{Departs, IsImport, LeavesPart};
-ghost use Rattle.cut_import.specs.Importers.{AddsFilm, AddsFirst, IsAt, IsImporter};
+ghost use Rattle.cut_import.specs.Importers.{AddsFilm, AddsFirst, IsAt, IsImporter, LeavesFirst, WritesFilm};
 ghost use Rattle.cut_import.specs.Statuses.{IsImporting};
 
 use crate::fault::departure;
@@ -63,6 +63,47 @@ fn add_pictures<D: Desk>(
     }
 }
 
+// Creates an output, codes the pictures that follow, appends the pages of the stream, and gives the number of pictures.
+fn write_film<D: Desk>(
+    desk: &mut D,
+    out: &str,
+    y4m: &mut Y4m,
+    picture: &mut Picture,
+    importer: &mut Importer,
+) -> Result<u32, Status>
+    requires input { (progress_of y4m.old).input < (D.sees desk.old).found }
+    requires of { IsOfInput (D.sees desk.old) (progress_of y4m.old) }
+    requires start { (progress_of y4m.old).frames ≡ 0 }
+    requires sound { (progress_of y4m.old).bad ≡ None }
+    requires size { IsSize (progress_of y4m.old).head.w (progress_of y4m.old).head.h (progress_of y4m.old).head.pf }
+    requires picture { IsPictureOf (progress_of y4m.old).head.w (progress_of y4m.old).head.h (progress_of y4m.old).head.pf (samples_of picture.old) }
+    requires importer { IsImporter importer.old }
+    requires at { IsAt 0 importer.old }
+    ensures written { IfOk result (WritesFilm (D.sees desk.old) (D.sees desk.new) out.now importer.old (progress_of y4m.old)) }
+    ensures part { OnErr result (LeavesFirst (D.sees desk.old) (D.sees desk.new) out.now importer.old (progress_of y4m.old)) }
+    ensures departs { (frame : ℕ) (why : Why) → IsErrOf result (Status.BadY4m frame why)
+        → Told (D.sees desk.old) (progress_of y4m.old).input (λ bytes. (pictures : List Samples) × Follow (progress_of y4m.old) bytes pictures (Some (record { frame = frame; why = why }))) }
+    ensures kept { ReadsAndMakes (D.sees desk.old) (D.sees desk.new) }
+    ensures reads { (D.sees desk.old).read_faults ≤ (D.sees desk.new).read_faults }
+    ensures writes { (D.sees desk.old).write_faults ≤ (D.sees desk.new).write_faults }
+    ensures read { IsErrOf result Status.ReadFault → Rose (D.sees desk.old).read_faults (D.sees desk.new).read_faults }
+    ensures write { IsErrOf result Status.WriteFault → Rose (D.sees desk.old).write_faults (D.sees desk.new).write_faults }
+    ensures only { IfErr result IsImporting }
+{
+    let id = match desk.create(out) {
+        Ok(id) => id,
+        Err(fault) => return Err(writing(fault)),
+    };
+    match importer.append(desk, id) {
+        Ok(()) => {}
+        Err(status) => return Err(status),
+    }
+    match add_pictures(desk, id, y4m, picture, importer) {
+        Ok(frames) => Ok(frames),
+        Err(status) => Err(status),
+    }
+}
+
 /// Codes all pictures of a YUV4MPEG2 input as a Theora stream in an Ogg file, and gives their number. `qi` is the quantiser
 /// index of all frames, and a frame is a key frame where `keys` divides its number. The head is read before the output is
 /// created; then pictures are read, padded and coded one after another, and pages are appended as they are ready. `BadY4m` is
@@ -102,16 +143,5 @@ pub fn import<D: Desk>(
     let Ok(mut importer) = Importer::new(alloc, &head, qi, keys) else {
         return Err(Status::NoMem);
     };
-    let id = match desk.create(out) {
-        Ok(id) => id,
-        Err(fault) => return Err(writing(fault)),
-    };
-    match importer.append(desk, id) {
-        Ok(()) => {}
-        Err(status) => return Err(status),
-    }
-    match add_pictures(desk, id, &mut y4m, &mut picture, &mut importer) {
-        Ok(frames) => Ok(frames),
-        Err(status) => Err(status),
-    }
+    write_film(desk, out, &mut y4m, &mut picture, &mut importer)
 }
