@@ -143,9 +143,10 @@ const EVEN: [(u8, u8, Diff); 2] = [
 #[test]
 fn an_even_frame_is_shown_as_near_as_the_matrix_allows(rt: HostRuntime) -> Result<(), Fail> {
     for (qi, luma, difference) in EVEN {
-        let mut encoder = encoder(&rt, rt.alloc(), &IDENT);
+        assert!(rt; qi < 64);
         let target = drawn(rt.alloc(), IDENT.shape(), Luma::Even(129))?;
         let mut out = Vec::new(rt.alloc());
+        let mut encoder = encoder(&rt, rt.alloc(), &IDENT);
         encoder.key(&target, qi, &mut out).expect(&rt, "no memory");
         let frame = encoder.frame();
         assert!(rt; is_even(&frame.y, luma), "luma at {qi}");
@@ -159,9 +160,9 @@ fn an_even_frame_is_shown_as_near_as_the_matrix_allows(rt: HostRuntime) -> Resul
 fn an_inter_packet_of_a_slope_that_moves_is_shorter_than_its_key_packet(
     rt: HostRuntime,
 ) -> Result<(), Fail> {
-    let mut encoder = encoder(&rt, rt.alloc(), &IDENT);
     let first = drawn(rt.alloc(), IDENT.shape(), Luma::Slope(0))?;
     let second = drawn(rt.alloc(), IDENT.shape(), Luma::Slope(2))?;
+    let mut encoder = encoder(&rt, rt.alloc(), &IDENT);
     let mut key = Vec::new(rt.alloc());
     encoder.key(&first, 40, &mut key).expect(&rt, "no memory");
     let mut inter = Vec::new(rt.alloc());
