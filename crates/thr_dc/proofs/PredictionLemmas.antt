@@ -1,8 +1,8 @@
 -- Predictors and the lists that are made by them. The walks through a plane and the laws cite these.
-use Rattle.std.proofs.Common.{◌≡◌, ◌∙◌, ℕ, ◌+◌, ◌-◌, ◌%◌, ◌<◌, ◌≤◌, ◌&&◌, nat_lt, nat_le, Bool, true, false, List, length, get_or, take, Option, Some, None, ℤ, pos, refl, sym, ap, arith}
+use Rattle.std.proofs.Common.{◌≡◌, ◌∙◌, ℕ, ◌+◌, ◌-◌, ◌%◌, ◌<◌, ◌≤◌, ◌&&◌, nat_lt, nat_le, Bool, true, false, List, length, get_or, set, take, Option, Some, None, ℤ, pos, refl, sym, ap, arith}
 use Rattle.std.specs.Option.{unwrap_or}
 use Rattle.std.proofs.lemmas.List.Sums.{fold_more}
-use Rattle.std.proofs.lemmas.List.{get_or-take, length-take-le}
+use Rattle.std.proofs.lemmas.List.{get_or-take, length-set, length-take-le, take-set}
 use Rattle.thr_dc.specs.Blocks.{Coded}
 use Rattle.std.proofs.lemmas.Bool.Decides.{nat_tests}
 use Rattle.thr_dc.specs.Predictor.{from_neighbours}
@@ -11,6 +11,14 @@ use Rattle.thr_dc.specs.Prediction.{around, counted, last_of, neighbour}
 last_more : (kind : ℕ) (blocks : List (Option Coded)) (place : ℕ) → place < length blocks → last_of kind (take (place + 1) blocks) ≡ unwrap_or (counted kind (get_or blocks place None)) (last_of kind (take place blocks))
 unfolding last_of
 last_more kind blocks place h = fold_more (λ last block. unwrap_or (counted kind block) last) (pos 0) blocks place None h
+
+-- where a block has changed, it may have the last value
+pub last_changed : (kind place : ℕ) (now new : List (Option Coded)) (block : Option Coded) → new ≡ set now place block → place < length now
+    → last_of kind (take (place + 1) new) ≡ unwrap_or (counted kind (get_or new place None)) (last_of kind (take place now))
+last_changed kind place now new block e h =
+    let long : length new ≡ length now = ap length e ∙ length-set now place block in
+    let front : take place new ≡ take place now = ap (take place) e ∙ take-set now place block in
+    last_more kind new place (omega arith) ∙ ap (λ l. unwrap_or (counted kind (get_or new place None)) (last_of kind l)) front
 
 -- the last block has the kind
 pub last_found : (kind : ℕ) (blocks : List (Option Coded)) (past : ℕ) (value : ℤ) → 0 < past → past ≤ length blocks → Some value ≡ counted kind (get_or blocks (past - 1) None) → last_of kind (take past blocks) ≡ value

@@ -24,3 +24,19 @@ pub(crate) struct Spot {
     pub(crate) column: u32,
     pub(crate) row: u32,
 }
+
+/// What a coded block gives to the prediction of others.
+#[derive(Clone, Copy)]
+pub(crate) struct CodedBlock {
+    pub(crate) kind: u8,
+    pub(crate) value: i16,
+}
+
+/// The blocks around a block but for the one to its lower right, each where there is one and it is coded. The block to the
+/// right of a block that was looked at has them at hand, so that none of the three is looked up again.
+#[derive(Clone, Copy)]
+pub(crate) struct Known {
+    pub(crate) left: Option<CodedBlock>,
+    pub(crate) lower_left: Option<CodedBlock>,
+    pub(crate) below: Option<CodedBlock>,
+}

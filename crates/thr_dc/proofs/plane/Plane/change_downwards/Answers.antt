@@ -33,7 +33,7 @@ places-preserved c =
     let old = blocks_of plane c.args.values.now in
     let long = plane_long s plane.flags.now plane.kinds.now c.args.values.now plane.pli in
     record {
-      blocks = by_old_more (value_by c.args.change) (block_columns s plane.pli) c.places.place old (blocks_of plane c.places.values) (blocks_of plane c.change_block.new.values) (omega arith) (omega arith) c.change_block.ensures.blocks c.places.invariant.blocks;
-      short = short_back (value_by c.args.change) (block_columns s plane.pli) c.places.place old (blocks_of plane c.places.values) (omega arith) (omega arith) c.places.invariant.blocks c.change_block.ensures.short c.places.invariant.short;
-      rest = changes_in_more s plane.flags.now plane.kinds.now plane.pli c.args.values.now c.places.values c.change_block.new.values c.places.invariant.rest c.change_block.ensures.rest;
+      blocks = by_old_more (value_by c.args.change) (block_columns s plane.pli) c.places.place old (blocks_of plane c.places.values) (blocks_of plane c.change_block.new.values) (omega arith) (omega arith) c.change_block.ensures.replaces.blocks c.places.invariant.blocks;
+      short = short_back (value_by c.args.change) (block_columns s plane.pli) c.places.place old (blocks_of plane c.places.values) (omega arith) (omega arith) c.places.invariant.blocks c.change_block.ensures.replaces.short c.places.invariant.short;
+      rest = changes_in_more s plane.flags.now plane.kinds.now plane.pli c.args.values.now c.places.values c.change_block.new.values c.places.invariant.rest c.change_block.ensures.replaces.rest;
     }
