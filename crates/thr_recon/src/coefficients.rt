@@ -1,24 +1,70 @@
 // From coefficients to residuals (Theora I, 7.9.2 and 7.9.4).
-ghost use Rattle.std.specs.Prelude.{◌≡◌, ◌<◌, ◌≤ℤ◌, ◌*ℤ◌, pos, negsuc};
+ghost use Rattle.std.specs.Prelude.{◌≡◌, ◌+◌, ◌++◌, ◌<◌, ◌≤◌, ◌≤ℤ◌, ◌*ℤ◌, ℕ, pos, negsuc, map, slice_index, true};
+ghost use Rattle.std.specs.Int.{cast_signed, w16};
 ghost use Rattle.thr_dct.specs.Line.{entry};
-ghost use Rattle.thr_recon.specs.Residual.{product, dequantised, short_residual, residual_of};
+ghost use Rattle.thr_recon.specs.Residual.{zigzag, factor_at, product, dequantised, short_residual, residual_of};
 
+use std::simd::prelude::*;
 use thr_dct::inverse;
 use vid_base::trunc16;
 
 /// Where the coefficient of each place of the natural order stands in zigzag order (Theora I, 2.6).
-static ZIGZAG: [u8; 64] = [
+const ZIGZAG: [usize; 64] = [
     0, 1, 5, 6, 14, 15, 27, 28, 2, 4, 7, 13, 16, 26, 29, 42, 3, 8, 12, 17, 25, 30, 41, 43, 9, 11,
     18, 24, 31, 40, 44, 53, 10, 19, 23, 32, 39, 45, 52, 54, 20, 22, 33, 38, 46, 51, 55, 60, 21, 34,
     37, 47, 50, 56, 59, 61, 35, 36, 48, 49, 57, 58, 62, 63,
 ];
 
-/// The coefficient at that place of the zigzag order times its entry, cut to 16 bits.
-fn product(c: &[i16; 64], at: usize, factor: u16) -> i16
-    requires { at < 64 }
-    ensures { result ≡ product (entry c.now at) factor }
+/// The bits of 32 coefficients from that place on. They are put in order and multiplied without their signs.
+fn bits(c: &[i16; 64], from: usize) -> [u16; 32]
+    requires { from ≤ 32 }
+    ensures { (k : ℕ) → k < 32 → cast_signed w16 (slice_index result k) ≡ entry c.now (from + k) }
 {
-    c[at].wrapping_mul(factor.cast_signed())
+    let mut out = [0; 32];
+    for k in 0..32usize {
+        out[k] = c[from + k].cast_unsigned();
+    }
+    out
+}
+
+/// Each number is looked at, whatever those before it are, so that vectors can hold them.
+fn are_zeros(numbers: &[u16; 32]) -> bool
+    ensures { result ≡ true → (k : ℕ) → k < 32 → slice_index numbers.now k ≡ 0 }
+{
+    let mut zeros = true;
+    for k in 0..32usize {
+        zeros = zeros & (numbers[k] == 0);
+    }
+    zeros
+}
+
+/// Numbers in zigzag order, the first 32 and the others, put into natural order. They are read as slices, since an array
+/// would become a vector number by number.
+fn in_natural_order(low: &[u16; 32], high: &[u16; 32]) -> [u16; 64]
+    ensures { result ≡ map (slice_index (low.now ++ high.now)) zigzag }
+{
+    u16x32::from_slice(low)
+        .shuffle(u16x32::from_slice(high), ZIGZAG)
+        .to_array()
+}
+
+/// The coefficient of these bits times its entry, cut to 16 bits.
+fn product(bits: u16, factor: u16) -> i16
+    ensures { result ≡ product (cast_signed w16 bits) factor }
+{
+    bits.wrapping_mul(factor).cast_signed()
+}
+
+/// The products of coefficients in natural order, of which the bits are given.
+fn products(ordered: &[u16; 64], dc: u16, ac: &[u16; 64]) -> [i16; 64]
+    ensures { (p : ℕ) → p < 64 → entry result p ≡ product (cast_signed w16 (slice_index ordered.now p)) (factor_at dc ac.now p) }
+{
+    let mut out = [0; 64];
+    for p in 0..64usize {
+        out[p] = product(ordered[p], ac[p]);
+    }
+    out[0] = product(ordered[0], dc);
+    out
 }
 
 /// Dequantises a block: coefficients in zigzag order give their products with the entries in natural order, each cut to
@@ -26,12 +72,13 @@ fn product(c: &[i16; 64], at: usize, factor: u16) -> i16
 pub fn dequantise(c: &[i16; 64], dc: u16, ac: &[u16; 64]) -> [i16; 64]
     ensures { result ≡ dequantised c.now dc ac.now }
 {
-    let mut out = [0; 64];
-    for p in 0..64usize {
-        out[p] = product(c, usize::from(ZIGZAG[p]), ac[p]);
+    let low = bits(c, 0);
+    let high = bits(c, 32);
+    // Most blocks have nothing in their second half, and zeros that are known need no shuffle.
+    if are_zeros(&high) {
+        return products(&in_natural_order(&low, &[0; 32]), dc, ac);
     }
-    out[0] = product(c, 0, dc);
-    out
+    products(&in_natural_order(&low, &high), dc, ac)
 }
 
 /// The first coefficient times its entry, whole.

@@ -64,6 +64,14 @@ fn coefficients_leave_the_zigzag_order(rt: HostRuntime) {
         ac[usize::from(k)] = 3 * k + 1;
     }
     assert_eq!(rt; dequantise(&c, 7, &ac), PRODUCTS);
+    let mut few = [0i16; 64];
+    let mut products = [0i16; 64];
+    few[31] = -2;
+    products[28] = -170;
+    assert_eq!(rt; dequantise(&few, 7, &ac), products);
+    few[32] = 3;
+    products[35] = 318;
+    assert_eq!(rt; dequantise(&few, 7, &ac), products);
 }
 
 #[test]
