@@ -1,7 +1,8 @@
+ghost use Rattle.std.specs.Prelude.{◌<◌};
+
 use crate::*;
-use std::alloc::{AllocError, Global};
+use std::alloc::Global;
 use std::process::Abort;
-use std::test::Fail;
 use vid_base::{BitReader, BitWriter, PacketFault, Refusal, Shape};
 use vid_geom::Geom;
 
@@ -44,49 +45,78 @@ fn read(
     geom: &Geom,
     bytes: &[u8],
     coded: bool,
-) -> Result<Result<u8, PacketFault>, AllocError> {
-    let flags = vec![in alloc; coded; geom.blocks() as usize]?;
+) -> Result<u8, PacketFault> {
+    let flags = vec![in alloc; coded; geom.blocks() as usize].expect(rt, "no memory");
     let mut modes = Vec::new(alloc);
     let answer = read_modes(&mut BitReader::new(bytes), geom, &flags, &mut modes);
-    let mut again = vec![in alloc; 9u8; geom.macro_blocks() as usize]?;
-    match read_modes_in(&mut BitReader::new(bytes), geom, &flags, &mut again) {
+    let again = vec![in alloc; 9u8; geom.macro_blocks() as usize];
+    let mut again = again.expect(rt, "no memory");
+    let second = read_modes_in(&mut BitReader::new(bytes), geom, &flags, &mut again);
+    alike(rt, answer, &modes, second, &again)
+}
+
+// What both calls have answered: the first mode, or the fault and no modes.
+fn alike(
+    rt: &impl Abort,
+    answer: Result<(), Refusal>,
+    modes: &[u8],
+    second: Result<(), PacketFault>,
+    again: &[u8],
+) -> Result<u8, PacketFault> {
+    match second {
         Ok(()) => {
             assert_eq!(rt; answer, Ok(()));
-            assert!(rt; again.as_slice() == modes.as_slice());
-            Ok(Ok(modes.first().copied().unwrap_or(9)))
+            assert!(rt; again == modes);
+            Ok(modes.first().copied().unwrap_or(9))
         }
         Err(fault) => {
             assert_eq!(rt; answer, Err(Refusal::Bad(fault)));
             assert!(rt; modes.is_empty());
-            Ok(Err(fault))
+            Err(fault)
         }
     }
 }
 
 #[test]
-fn modes_by_rank_by_a_list_of_the_packet_or_as_three_bits(rt: HostRuntime) -> Result<(), Fail> {
+fn modes_by_rank_by_a_list_of_the_packet_or_as_three_bits(rt: HostRuntime) {
     let geom = one_macro_block(&rt, rt.alloc());
-    for (bytes, coded, mode) in READ {
-        let got = read(&rt, rt.alloc(), &geom, bytes, coded)?;
-        assert!(rt; got == mode, "{bytes:?}");
+    for &(bytes, coded, mode) in &READ {
+        let got = read(&rt, rt.alloc(), &geom, bytes, coded);
+        is_read(&rt, bytes, got, mode);
     }
-    Ok(())
+}
+
+fn is_read(
+    rt: &impl Abort,
+    bytes: &[u8],
+    got: Result<u8, PacketFault>,
+    mode: Result<u8, PacketFault>,
+) {
+    assert!(rt; got == mode, "{bytes:?}");
+}
+
+// The bytes that are written of one mode.
+fn written(rt: &impl Abort, alloc: Global, geom: &Geom, mode: u8) -> Vec<u8>
+    requires { mode < 8 }
+{
+    let flags = vec![in alloc; true; geom.blocks() as usize].expect(rt, "no memory");
+    assert!(rt; geom.macro_blocks() == 1);
+    let mut w = BitWriter::new(alloc);
+    assert_eq!(rt; write_modes(&mut w, geom, &flags, &[mode]), Ok(()));
+    w.finish()
 }
 
 #[test]
-fn a_mode_is_written_as_three_bits_behind_scheme_seven(rt: HostRuntime) -> Result<(), Fail> {
+fn a_mode_is_written_as_three_bits_behind_scheme_seven(rt: HostRuntime) {
     let geom = one_macro_block(&rt, rt.alloc());
-    let flags = vec![in rt.alloc(); true; geom.blocks() as usize]?;
     for mode in 0..8u8 {
-        let modes = [mode];
-        if geom.macro_blocks() == 1 {
-            let mut w = BitWriter::new(rt.alloc());
-            assert_eq!(rt; write_modes(&mut w, &geom, &flags, &modes), Ok(()));
-            assert!(rt;
-                w.finish().as_slice() == [0xe0 + 4 * mode].as_slice(),
-                "mode {mode}"
-            );
-        }
+        let bytes = written(&rt, rt.alloc(), &geom, mode);
+        is_mode(&rt, &bytes, mode);
     }
-    Ok(())
+}
+
+fn is_mode(rt: &impl Abort, bytes: &[u8], mode: u8)
+    requires { mode < 8 }
+{
+    assert!(rt; bytes == [0xe0 + 4 * mode].as_slice(), "mode {mode}");
 }

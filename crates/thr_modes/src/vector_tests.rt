@@ -1,8 +1,10 @@
+ghost use Rattle.std.specs.Prelude.{◌<◌, All};
+
 use crate::*;
-use std::alloc::{AllocError, Global};
+use std::alloc::Global;
+use std::fmt::Debug;
 use std::process::Abort;
-use std::test::Fail;
-use vid_base::{BitReader, BitWriter, NoMem, PacketFault, Refusal, Shape, Vector};
+use vid_base::{BitReader, BitWriter, PacketFault, Refusal, Shape, Vector};
 use vid_geom::Geom;
 
 /// One macro block in mode 2: bits, how many of them are left, and the components of its vector.
@@ -83,24 +85,25 @@ fn frame(rt: &impl Abort, alloc: Global, across: u16, upwards: u16, pf: u8) -> G
 }
 
 // Components under MVMODE 1: 5 bits and a sign each.
-fn packet(alloc: Global, components: &[i8]) -> Result<Vec<u8>, NoMem> {
+fn packet(rt: &impl Abort, alloc: Global, components: &[i8]) -> Vec<u8> {
     let mut w = BitWriter::new(alloc);
-    w.put(1, 1)?;
+    w.put(1, 1).expect(rt, "no memory");
     for component in components {
-        w.put(u32::from(component.unsigned_abs() % 32), 5)?;
-        w.put(u32::from(*component < 0), 1)?;
+        let size = u32::from(component.unsigned_abs() % 32);
+        w.put(size, 5).expect(rt, "no memory");
+        w.put(u32::from(*component < 0), 1).expect(rt, "no memory");
     }
-    Ok(w.finish())
+    w.finish()
 }
 
 // The components of vectors.
-fn components(alloc: Global, vectors: &[Vector]) -> Result<Vec<i8>, AllocError> {
+fn components(rt: &impl Abort, alloc: Global, vectors: &[Vector]) -> Vec<i8> {
     let mut components = Vec::new(alloc);
     for vector in vectors {
-        components.push(vector.x)?;
-        components.push(vector.y)?;
+        components.push(vector.x).expect(rt, "no memory");
+        components.push(vector.y).expect(rt, "no memory");
     }
-    Ok(components)
+    components
 }
 
 // The components of the vectors or the fault, which both calls have to answer alike, leaving as many bits.
@@ -111,25 +114,39 @@ fn read(
     geom: &Geom,
     flags: &[bool],
     modes: &[u8],
-) -> Result<Result<Vec<i8>, PacketFault>, AllocError> {
+) -> Result<Vec<i8>, PacketFault> {
     assert!(rt; flags.len() == geom.blocks() as usize);
     assert!(rt; modes.len() == geom.macro_blocks() as usize);
     let mut again = r.copy();
     let mut vectors = Vec::new(alloc);
     let answer = read_vectors(r, geom, flags, modes, &mut vectors);
-    let mut lent = vec![in alloc; Vector { x: 9, y: 9 }; flags.len()]?;
+    let lent = vec![in alloc; Vector { x: 9, y: 9 }; flags.len()];
+    let mut lent = lent.expect(rt, "no memory");
     let second = read_vectors_in(&mut again, geom, flags, modes, &mut lent);
     assert!(rt; left(r) == left(&again));
+    are_alike(rt, answer, &vectors, second, &lent);
+    match second {
+        Ok(()) => Ok(components(rt, alloc, &vectors)),
+        Err(fault) => Err(fault),
+    }
+}
+
+// Both calls have answered alike: with the same vectors, or with one fault and none.
+fn are_alike(
+    rt: &impl Abort,
+    answer: Result<(), Refusal>,
+    vectors: &[Vector],
+    second: Result<(), PacketFault>,
+    lent: &[Vector],
+) {
     match second {
         Ok(()) => {
             assert_eq!(rt; answer, Ok(()));
-            assert!(rt; lent.as_slice() == vectors.as_slice());
-            Ok(Ok(components(alloc, &vectors)?))
+            assert!(rt; lent == vectors);
         }
         Err(fault) => {
             assert_eq!(rt; answer, Err(Refusal::Bad(fault)));
             assert!(rt; vectors.is_empty());
-            Ok(Err(fault))
         }
     }
 }
@@ -154,77 +171,114 @@ fn left(r: &BitReader) -> usize {
     count
 }
 
-#[test]
-fn a_vector_is_read_under_both_codings(rt: HostRuntime) -> Result<(), Fail> {
-    let geom = frame(&rt, rt.alloc(), 1, 1, 0);
-    let flags = vec![in rt.alloc(); true; geom.blocks() as usize]?;
-    for (bytes, rest, [x, y]) in CODED {
-        let mut r = BitReader::new(bytes);
-        let vectors = read(&rt, rt.alloc(), &mut r, &geom, &flags, &[2])?;
-        let six = [x, y, x, y, x, y, x, y, x, y, x, y];
-        assert!(rt; is(&vectors, &six), "({x}, {y})");
-        assert_eq!(rt; left(&r), rest, "({x}, {y})");
-    }
-    Ok(())
+// A row of a table holds.
+fn holds(rt: &impl Abort, so: bool, row: &impl Debug) {
+    assert!(rt; so, "{row:?}");
+}
+
+// Whether these bits give vectors of one macro block, all of the components x and y, and leave so many bits.
+fn all_are(
+    rt: &impl Abort,
+    alloc: Global,
+    geom: &Geom,
+    bytes: &[u8],
+    rest: usize,
+    [x, y]: [i8; 2],
+) -> bool {
+    let mut r = BitReader::new(bytes);
+    let vectors = read(rt, alloc, &mut r, geom, &[true; 6], &[2]);
+    is(&vectors, &[x, y, x, y, x, y, x, y, x, y, x, y]) && left(&r) == rest
 }
 
 #[test]
-fn vectors_are_remembered_from_macro_block_to_macro_block(rt: HostRuntime) -> Result<(), Fail> {
+fn a_vector_is_read_under_both_codings(rt: HostRuntime) {
+    let geom = frame(&rt, rt.alloc(), 1, 1, 0);
+    for &(bytes, rest, vector) in &CODED {
+        let so = all_are(&rt, rt.alloc(), &geom, bytes, rest, vector);
+        holds(&rt, so, &vector);
+    }
+}
+
+// Whether the macro blocks have vectors of these components.
+fn are_remembered(
+    rt: &impl Abort,
+    alloc: Global,
+    geom: &Geom,
+    modes: &[u8],
+    coded: &[i8],
+    expected: &[i8],
+) -> bool {
+    let bytes = packet(rt, alloc, coded);
+    let vectors = read(
+        rt,
+        alloc,
+        &mut BitReader::new(&bytes),
+        geom,
+        &[true; 24],
+        modes,
+    );
+    let vectors = vectors.expect(rt, "no vectors");
+    vectors.get(32..40) == Some(expected)
+}
+
+#[test]
+fn vectors_are_remembered_from_macro_block_to_macro_block(rt: HostRuntime) {
     let geom = frame(&rt, rt.alloc(), 4, 1, 0);
-    let flags = vec![in rt.alloc(); true; geom.blocks() as usize]?;
-    for (modes, coded, expected) in REMEMBERED {
-        let bytes = packet(rt.alloc(), coded)?;
-        let vectors = read(
-            &rt,
-            rt.alloc(),
-            &mut BitReader::new(&bytes),
-            &geom,
-            &flags,
-            &modes,
-        )?;
-        let vectors = vectors.expect(&rt, "no vectors");
-        assert!(rt;
-            vectors.get(32..40) == Some(expected.as_slice()),
-            "modes {modes:?}"
-        );
+    for &(modes, coded, expected) in &REMEMBERED {
+        let same = are_remembered(&rt, rt.alloc(), &geom, &modes, coded, &expected);
+        holds(&rt, same, &modes);
     }
-    Ok(())
+}
+
+// Whether two macro blocks in modes 7 and 3 have vectors of these components.
+fn have_own(
+    rt: &impl Abort,
+    alloc: Global,
+    geom: &Geom,
+    last: bool,
+    coded: &[i8],
+    expected: &[i8],
+) -> bool {
+    let flags = vec![in alloc; true; geom.blocks() as usize];
+    let mut flags = flags.expect(rt, "no memory");
+    assert!(rt; flags.len() > 2);
+    flags[2] = last;
+    let bytes = packet(rt, alloc, coded);
+    let vectors = read(
+        rt,
+        alloc,
+        &mut BitReader::new(&bytes),
+        geom,
+        &flags,
+        &[7, 3],
+    );
+    is(&vectors, expected)
 }
 
 #[test]
-fn each_luma_block_has_its_own_vector_and_chroma_has_means(rt: HostRuntime) -> Result<(), Fail> {
-    for (pf, last, coded, expected) in OWN {
+fn each_luma_block_has_its_own_vector_and_chroma_has_means(rt: HostRuntime) {
+    for &(pf, last, coded, expected) in &OWN {
         let geom = frame(&rt, rt.alloc(), 2, 1, pf);
-        let mut flags = vec![in rt.alloc(); true; geom.blocks() as usize]?;
-        assert!(rt; flags.len() > 2);
-        flags[2] = last;
-        let bytes = packet(rt.alloc(), coded)?;
-        let vectors = read(
-            &rt,
-            rt.alloc(),
-            &mut BitReader::new(&bytes),
-            &geom,
-            &flags,
-            &[7, 3],
-        )?;
-        assert!(rt; is(&vectors, expected), "format {pf}");
+        let same = have_own(&rt, rt.alloc(), &geom, last, coded, expected);
+        holds(&rt, same, &pf);
     }
-    Ok(())
+}
+
+// Whether bytes end before the vectors of one macro block in mode 7 do.
+fn end_early(rt: &impl Abort, alloc: Global, geom: &Geom, bytes: &[u8]) -> bool {
+    let mut r = BitReader::new(bytes);
+    read(rt, alloc, &mut r, geom, &[true; 6], &[7]) == Err(PacketFault::Ended)
 }
 
 #[test]
-fn vectors_end_early_at_each_cut(rt: HostRuntime) -> Result<(), Fail> {
+fn vectors_end_early_at_each_cut(rt: HostRuntime) {
     let geom = frame(&rt, rt.alloc(), 1, 1, 0);
-    let flags = vec![in rt.alloc(); true; geom.blocks() as usize]?;
-    let modes = vec![in rt.alloc(); 7u8; geom.macro_blocks() as usize]?;
-    let bytes = packet(rt.alloc(), &[1, 2, 3, 4, 5, 6, 7, 8])?;
+    let bytes = packet(&rt, rt.alloc(), &[1, 2, 3, 4, 5, 6, 7, 8]);
     assert_eq!(rt; bytes.len(), 7);
     for cut in 0..7usize {
-        let mut r = BitReader::new(&bytes.as_slice()[..cut]);
-        let refused = read(&rt, rt.alloc(), &mut r, &geom, &flags, &modes)?;
-        assert!(rt; refused == Err(PacketFault::Ended), "{cut} bytes");
+        let refused = end_early(&rt, rt.alloc(), &geom, &bytes.as_slice()[..cut]);
+        holds(&rt, refused, &cut);
     }
-    Ok(())
 }
 
 // The next of a row of numbers below 65,536 that look random.
@@ -233,64 +287,77 @@ fn next(seed: &mut u32) -> u32 {
     *seed >> 16
 }
 
-// Bytes that look random.
-fn drawn_bytes(alloc: Global, count: usize, seed: &mut u32) -> Result<Vec<u8>, AllocError> {
-    let mut bytes = vec![in alloc; 0u8; count]?;
+// Bytes that look random, the first of them at least 128: schemes 4 to 7 have no list of their own that could be refused.
+fn drawn_bytes(rt: &impl Abort, alloc: Global, count: usize, seed: &mut u32) -> Vec<u8> {
+    let mut bytes = vec![in alloc; 0u8; count].expect(rt, "no memory");
     for byte in bytes.iter_mut() {
         *byte = (next(seed) % 256) as u8;
     }
-    Ok(bytes)
-}
-
-// Modes and vectors of any bits, for any flags: written, they are read again.
-fn are_read_again(
-    rt: &impl Abort,
-    alloc: Global,
-    geom: &Geom,
-    seed: &mut u32,
-) -> Result<bool, AllocError> {
-    let mut flags = vec![in alloc; false; geom.blocks() as usize]?;
-    for flag in flags.iter_mut() {
-        *flag = next(seed) % 4 != 0;
-    }
-    let mut bytes = drawn_bytes(alloc, 8 + 2 * flags.len(), seed)?;
-    // Schemes 4 to 7 have no list of their own that could be refused.
     if let Some(first) = bytes.first_mut() {
         *first = 128 + *first % 128;
     }
+    bytes
+}
+
+// Flags that look random, three in four of them set.
+fn drawn_flags(rt: &impl Abort, alloc: Global, count: usize, seed: &mut u32) -> Vec<bool> {
+    let mut flags = vec![in alloc; false; count].expect(rt, "no memory");
+    for flag in flags.iter_mut() {
+        *flag = next(seed) % 4 != 0;
+    }
+    flags
+}
+
+// Modes that are written are read again.
+fn modes_are_read_again(rt: &impl Abort, alloc: Global, geom: &Geom, flags: &[bool], modes: &[u8])
+    requires { All (λ mode. mode < 8) modes.now }
+{
+    assert!(rt; flags.len() == geom.blocks() as usize);
+    assert!(rt; modes.len() == geom.macro_blocks() as usize);
+    let mut w = BitWriter::new(alloc);
+    assert_eq!(rt; write_modes(&mut w, geom, flags, modes), Ok(()));
+    let written = w.finish();
+    let mut back = Vec::new(alloc);
+    let answer = read_modes(&mut BitReader::new(&written), geom, flags, &mut back);
+    assert_eq!(rt; answer, Ok(()));
+    assert!(rt; back.as_slice() == modes);
+}
+
+// Whether vectors that are written are read again.
+fn vectors_are_read_again(
+    rt: &impl Abort,
+    alloc: Global,
+    geom: &Geom,
+    flags: &[bool],
+    modes: &[u8],
+    vectors: &[Vector],
+) -> bool {
+    assert!(rt; flags.len() == geom.blocks() as usize);
+    assert!(rt; modes.len() == geom.macro_blocks() as usize);
+    assert!(rt; vectors.len() == geom.blocks() as usize);
+    let mut w = BitWriter::new(alloc);
+    assert_eq!(rt; write_vectors(&mut w, geom, flags, modes, vectors), Ok(()));
+    let written = w.finish();
+    let back = read(rt, alloc, &mut BitReader::new(&written), geom, flags, modes);
+    is(&back, &components(rt, alloc, vectors))
+}
+
+// Modes and vectors of any bits, for any flags: written, they are read again.
+fn are_read_again(rt: &impl Abort, alloc: Global, geom: &Geom, seed: &mut u32) -> bool {
+    let flags = drawn_flags(rt, alloc, geom.blocks() as usize, seed);
+    let bytes = drawn_bytes(rt, alloc, 8 + 2 * geom.blocks() as usize, seed);
+    assert!(rt; flags.len() == geom.blocks() as usize);
     let mut modes = Vec::new(alloc);
     let mut r = BitReader::new(&bytes);
     if read_modes(&mut r, geom, &flags, &mut modes).is_err() {
-        return Ok(false);
+        return false;
     }
-    let mut w = BitWriter::new(alloc);
-    assert_eq!(rt; write_modes(&mut w, geom, &flags, &modes), Ok(()));
-    let written = w.finish();
-    let mut back = Vec::new(alloc);
-    let answer = read_modes(&mut BitReader::new(&written), geom, &flags, &mut back);
-    assert_eq!(rt; answer, Ok(()));
-    assert!(rt; back.as_slice() == modes.as_slice());
+    modes_are_read_again(rt, alloc, geom, &flags, &modes);
+    assert!(rt; modes.len() == geom.macro_blocks() as usize);
     let mut vectors = Vec::new(alloc);
-    assert_eq!(rt;
-        read_vectors(&mut r, geom, &flags, &modes, &mut vectors),
-        Ok(())
-    );
-    assert!(rt; vectors.len() == geom.blocks() as usize);
-    let mut w = BitWriter::new(alloc);
-    assert_eq!(rt;
-        write_vectors(&mut w, geom, &flags, &modes, &vectors),
-        Ok(())
-    );
-    let written = w.finish();
-    let back = read(
-        rt,
-        alloc,
-        &mut BitReader::new(&written),
-        geom,
-        &flags,
-        &modes,
-    )?;
-    Ok(is(&back, &components(alloc, &vectors)?))
+    let answer = read_vectors(&mut r, geom, &flags, &modes, &mut vectors);
+    assert_eq!(rt; answer, Ok(()));
+    vectors_are_read_again(rt, alloc, geom, &flags, &modes, &vectors)
 }
 
 /// Columns, rows and formats of frames, the greatest among them, and how many of each are drawn.
@@ -306,16 +373,13 @@ const SHAPES: [(u16, u16, u8, u32); 8] = [
 ];
 
 #[test]
-fn modes_and_vectors_of_any_bits_are_read_again_when_they_were_written(
-    rt: HostRuntime,
-) -> Result<(), Fail> {
+fn modes_and_vectors_of_any_bits_are_read_again_when_they_were_written(rt: HostRuntime) {
     let mut seed = 7;
-    for (across, upwards, pf, count) in SHAPES {
+    for &(across, upwards, pf, count) in &SHAPES {
         let geom = frame(&rt, rt.alloc(), across, upwards, pf);
         for _ in 0..count {
-            let same = are_read_again(&rt, rt.alloc(), &geom, &mut seed)?;
-            assert!(rt; same, "{across} by {upwards} of format {pf}");
+            let same = are_read_again(&rt, rt.alloc(), &geom, &mut seed);
+            holds(&rt, same, &(across, upwards, pf));
         }
     }
-    Ok(())
 }
