@@ -121,6 +121,10 @@ impl Book {
                 return Ok(entry.token);
             }
         }
-        walk(&self.tree, r)
+        // Rare, and by a reader of its own, so that the other can be kept in registers.
+        let mut apart = r.copy();
+        let token = walk(&self.tree, &mut apart);
+        *r = apart;
+        token
     }
 }
