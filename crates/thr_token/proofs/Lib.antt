@@ -10,3 +10,4 @@ pub mod TokenisedLemmas
 pub mod ListingLemmas
 pub mod WaitingLemmas
 pub mod RowLemmas
+pub mod CheckingLemmas

@@ -1,9 +1,12 @@
 -- A frame's blocks before their first tokens, and their results, as the lists that are lent. `read_tokens_in` and `read_tokens_with` cite these.
-use Rattle.std.proofs.Common.{◌≡◌, ℕ, ℤ, pos, Bool, List, [], ◌∷◌, length, map, replicate, refl, ap, sym, subst, arith, ◌∙◌, Ok, Err}
+use Rattle.std.proofs.Common.{◌≡◌, ◌<◌, ℕ, ℤ, pos, Bool, List, [], ◌∷◌, length, map, replicate, refl, ap, sym, subst, arith, ◌∙◌, Ok, Err}
 use Rattle.std.proofs.lemmas.List.{length-map}
 use Rattle.vid_base.specs.declared.shape.Shape.{Shape}
 use Rattle.vid_geom.specs.declared.block.Block.{Block}
-use Rattle.vid_geom.specs.CodedOrder.{order_of}
+use Rattle.vid_geom.specs.CodedOrder.{block_grid, order_of}
+use Rattle.vid_geom.specs.Tables.{IsSmall}
+use Rattle.vid_geom.proofs.OrderLemmas.{length-order_of}
+use Rattle.vid_geom.proofs.SizeLemmas.{block_grid_small}
 use Rattle.thr_token.specs.Coefficients.{TableNumbers, Progress, at_place, coefficients, first_place, is_luma, numbers_in, places, results_of, token_in, untouched, untouched_blocks}
 use Rattle.vid_base.specs.declared.fault.PacketFault.{PacketFault}
 use Rattle.thr_huff.specs.CodeTree.{CodeTree}
@@ -63,3 +66,28 @@ pub last_fault : (forest : List CodeTree) (s : Shape) (flags bits : List Bool) (
     → coefficients forest s flags bits ≡ Err fault
 unfolding coefficients places
 last_fault forest s flags bits dc ac first run one two three fault a b c d = rw (a, b, c, d) refl
+
+-- faults before them
+pub dc_fault : (forest : List CodeTree) (s : Shape) (flags bits : List Bool) (fault : PacketFault) → numbers_in bits ≡ Err fault → coefficients forest s flags bits ≡ Err fault
+unfolding coefficients
+dc_fault forest s flags bits fault a = rw a refl
+
+pub first_fault : (forest : List CodeTree) (s : Shape) (flags bits : List Bool) (dc : TableNumbers) (one : List Bool) (fault : PacketFault)
+    → numbers_in bits ≡ Ok (dc, one) → at_place (token_in forest dc) 0 [] (untouched_blocks (order_of s) flags) 0 one ≡ Err fault
+    → coefficients forest s flags bits ≡ Err fault
+unfolding coefficients places
+first_fault forest s flags bits dc one fault a b = rw (a, b) refl
+
+pub ac_fault : (forest : List CodeTree) (s : Shape) (flags bits : List Bool) (dc : TableNumbers) (first : List Progress) (run : ℕ) (one two : List Bool) (fault : PacketFault)
+    → numbers_in bits ≡ Ok (dc, one) → at_place (token_in forest dc) 0 [] (untouched_blocks (order_of s) flags) 0 one ≡ Ok ((first, run), two)
+    → numbers_in two ≡ Err fault → coefficients forest s flags bits ≡ Err fault
+unfolding coefficients places
+ac_fault forest s flags bits dc first run one two fault a b c = rw (a, b, c) refl
+
+-- no frame has so many blocks
+pub few_blocks : (s : Shape) → length (order_of s) < 67108864
+few_blocks s =
+    let a : IsSmall (block_grid s 0) = block_grid_small s 0 in
+    let b : IsSmall (block_grid s 1) = block_grid_small s 1 in
+    let d : IsSmall (block_grid s 2) = block_grid_small s 2 in
+    omega (arith, length-order_of s, a.2, b.2, d.2)

@@ -95,7 +95,7 @@ unfolding unended
 unended_behind lumas places values counts n even =
     ap unended_at (sym (drop-map (λ b. b.place) n (standing lumas places values counts)) ∙ ap (drop n) (places_in lumas places values counts even))
 
-unended_append : (front rest : List ℕ) → unended_at (front ++ rest) ≡ unended_at front + unended_at rest
+pub unended_append : (front rest : List ℕ) → unended_at (front ++ rest) ≡ unended_at front + unended_at rest
 unended_append front rest =
     let test : ℕ → Bool = λ place. nat_lt place 64 in
     sym (length-filter test (front ++ rest)) ∙ ap length (filter-append test front rest) ∙ length-append (filter test front) (filter test rest)

@@ -1,6 +1,8 @@
 pub mod Tokens
 pub mod Coefficients
+pub mod Passing
 pub mod Standing
+pub mod Checking
 pub mod Listing
 pub mod Tokenised
 pub mod WrittenTokens

@@ -2,6 +2,7 @@
 #![tactic(auto)]
 
 mod adding;
+mod checking;
 mod coeffs;
 mod laws;
 mod meaning;
@@ -16,6 +17,7 @@ mod trees;
 mod waiting;
 mod writing;
 
+pub use checking::check_tokens;
 pub use coeffs::Coeffs;
 pub use laws::full_rows_hold_all_tokens;
 pub use reading::{read_tokens, read_tokens_in, read_tokens_with};

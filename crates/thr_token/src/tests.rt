@@ -159,7 +159,25 @@ fn agree(a: &Result<Outcome, PacketFault>, b: &Result<Outcome, PacketFault>) -> 
     }
 }
 
-// The coefficients of a macro block in 4:2:0, whose six blocks are coded but for those from one on, or the fault. The three
+// By the call that keeps no coefficient: how many bits it left.
+fn checked(forest: &Forest, geom: &Geom, flags: &[bool], bytes: &[u8]) -> Result<usize, PacketFault>
+    requires { length flags.now ≡ length (order_of geom.now) }
+{
+    let mut r = BitReader::new(bytes);
+    check_tokens(&mut r, forest, geom, flags)?;
+    Ok(left(&mut r))
+}
+
+// Whether it left as many bits as a call that reads, or has its fault.
+fn passes(a: &Result<Outcome, PacketFault>, left: Result<usize, PacketFault>) -> bool {
+    match (a, left) {
+        (Ok(a), Ok(left)) => a.left == left,
+        (Err(a), Err(fault)) => *a == fault,
+        _ => false,
+    }
+}
+
+// The coefficients of a macro block in 4:2:0, whose six blocks are coded but for those from one on, or the fault. The four
 // calls have to answer alike.
 fn read(
     rt: &impl Abort,
@@ -179,6 +197,7 @@ fn read(
     let of_bytes = by_bytes(alloc, &forest, &geom, &flags, bytes)?;
     let of_words = by_words(alloc, &forest, &geom, &flags, bytes)?;
     assert!(rt; agree(&outcome, &of_bytes) && agree(&outcome, &of_words));
+    assert!(rt; passes(&outcome, checked(&forest, &geom, &flags, bytes)));
     Ok(outcome)
 }
 

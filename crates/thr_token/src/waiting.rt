@@ -85,6 +85,7 @@ impl PlaceTrees<'_> {
         ensures list { IfOk result (λ x. (x.1 ≤ length list.old) × IsListing (length (lumas_of self.now.all.geom.now)) (take x.1 list.new)) }
         ensures end { SameEnd r.old r.new }
     {
+        let mut bits = r.copy();
         let mut run = active;
         let mut kept = 0;
         'list: for k in 0..list.len() {
@@ -93,7 +94,7 @@ impl PlaceTrees<'_> {
             let i = b as usize;
             let others = kept + (list.len() - k - 1);
             let stands = self.visit(
-                r,
+                &mut bits,
                 self.all.is_luma(b),
                 (word % 64) as u8,
                 &mut run,
@@ -106,6 +107,7 @@ impl PlaceTrees<'_> {
                 kept += 1;
             }
         }
+        *r = bits;
         Ok((run, kept))
     }
 }

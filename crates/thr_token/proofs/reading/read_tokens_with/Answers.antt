@@ -1,20 +1,9 @@
 use Rattle.std.proofs.Common.{◌≡◌, ◌∙◌, ◌<◌, ◌++◌, length, replicate, take, drop, pos, Ok, ap, arith}
 use Rattle.std.proofs.lemmas.List.{length-replicate, take-append-le}
 use Rattle.std.proofs.lemmas.Result.{err_from_is_err_and}
-use Rattle.vid_base.specs.declared.shape.Shape.{Shape}
-use Rattle.vid_geom.specs.CodedOrder.{block_grid, order_of}
-use Rattle.vid_geom.specs.Tables.{IsSmall}
-use Rattle.vid_geom.proofs.OrderLemmas.{length-order_of}
-use Rattle.vid_geom.proofs.SizeLemmas.{block_grid_small}
-use Rattle.thr_token.proofs.ReadingLemmas.{all_read, first_listing, last_fault, listed_results_is, listed_untouched_is}
+use Rattle.vid_geom.specs.CodedOrder.{order_of}
+use Rattle.thr_token.proofs.ReadingLemmas.{all_read, few_blocks, first_listing, last_fault, listed_results_is, listed_untouched_is}
 use Rattle.thr_token.proofs.reading.read_tokens_with.Goals as goal
-
-few_blocks : (s : Shape) → length (order_of s) < 67108864
-few_blocks s =
-    let a : IsSmall (block_grid s 0) = block_grid_small s 0 in
-    let b : IsSmall (block_grid s 1) = block_grid_small s 1 in
-    let d : IsSmall (block_grid s 2) = block_grid_small s 2 in
-    omega (arith, length-order_of s, a.2, b.2, d.2)
 
 pub begin_listed-open-requires-clause-few : goal.begin_listed-open-requires-clause-few
 begin_listed-open-requires-clause-few c = omega (arith, few_blocks c.args.geom.now)

@@ -24,7 +24,7 @@ list-init c =
     let trees = c.args.self.now in
     let lumas = lumas_of trees.all.geom.now in
     let long = length-map (order_of trees.all.geom.now) is_luma in
-    record {
+    rw c.copy-bits.ensures (record {
       end = refl;
       low = omega arith;
       values_are = omega arith;
@@ -32,7 +32,7 @@ list-init c =
       listing = c.requires.list;
       same = from_front (token_in trees.all.forest.now (as_numbers trees.all.numbers)) trees.place lumas c.args.list.now c.args.values.now c.args.counts.now c.args.active c.args.r.now.left
           trees.place_is c.requires.list (omega arith) (omega arith);
-    }
+    })
 
 pub is_luma-requires : goal.is_luma-requires
 is_luma-requires c =
@@ -67,9 +67,9 @@ returns-in_err-stands-clause-value c =
     let lumas : List Bool = lumas_of trees.all.geom.now in
     let next = token_in trees.all.forest.now (as_numbers trees.all.numbers) in
     let listing = listing_here (length lumas) s.k s.kept s.list (omega arith) s.invariant.listing in
-    let fault = word_fault next trees.place lumas (take s.kept s.list) (get_or s.list s.k 0) (drop (s.k + 1) s.list) s.values s.counts s.run s.r.left _ listing s.invariant.values_are s.invariant.counts_are
+    let fault = word_fault next trees.place lumas (take s.kept s.list) (get_or s.list s.k 0) (drop (s.k + 1) s.list) s.values s.counts s.run s.bits.left _ listing s.invariant.values_are s.invariant.counts_are
     _ _ (others_are s.k s.kept _ s.list (omega arith) s.invariant.low refl) c.is_luma.ensures c.in_err-stands.ensures.value in
-    rw (p.1, p.2) (sym s.invariant.same ∙ at_word next trees.place lumas s.k s.kept s.list s.values s.counts s.run s.r.left (omega arith) ∙ fault)
+    rw (p.1, p.2) (sym s.invariant.same ∙ at_word next trees.place lumas s.k s.kept s.list s.values s.counts s.run s.bits.left (omega arith) ∙ fault)
 
 pub list-preserved : goal.list-preserved
 list-preserved c =
@@ -79,7 +79,7 @@ list-preserved c =
     let next = token_in trees.all.forest.now (as_numbers trees.all.numbers) in
     let word : ℕ = get_or s.list s.k 0 in
     let listing = listing_here (length lumas) s.k s.kept s.list (omega arith) s.invariant.listing in
-    let after = word_more next trees.place lumas (take s.kept s.list) word (drop (s.k + 1) s.list) s.values s.counts s.run c.in_ok-stands.stands c.visit.new.block c.visit.new.count c.visit.new.run s.r.left c.visit.new.r.left
+    let after = word_more next trees.place lumas (take s.kept s.list) word (drop (s.k + 1) s.list) s.values s.counts s.run c.in_ok-stands.stands c.visit.new.block c.visit.new.count c.visit.new.run s.bits.left c.visit.new.r.left
     trees.place_is c.in_ok-stands.ensures.small listing s.invariant.values_are s.invariant.counts_are
     _ _ (others_are s.k s.kept _ s.list (omega arith) s.invariant.low refl) c.is_luma.ensures c.in_ok-stands.ensures.value in
     let kept_is : IsKept s.k s.kept s.list c.if-stands-lt-ENDED.kept c.if-stands-lt-ENDED.list (word / 64) c.in_ok-stands.stands =
@@ -93,7 +93,7 @@ list-preserved c =
       values_are = length-set s.values (word / 64) c.visit.new.block ∙ s.invariant.values_are;
       counts_are = length-set s.counts (word / 64) c.visit.new.count ∙ s.invariant.counts_are;
       listing = subst (IsListing (length lumas)) (sym kept_is.words) after.listing;
-      same = rw (kept_is.words, kept_is.behind) (after.same ∙ sym (at_word next trees.place lumas s.k s.kept s.list s.values s.counts s.run s.r.left (omega arith)) ∙ s.invariant.same);
+      same = rw (kept_is.words, kept_is.behind) (after.same ∙ sym (at_word next trees.place lumas s.k s.kept s.list s.values s.counts s.run s.bits.left (omega arith)) ∙ s.invariant.same);
     }
 
 pub returns : goal.returns
@@ -104,11 +104,11 @@ returns c =
     let next = token_in trees.all.forest.now (as_numbers trees.all.numbers) in
     let words : List ℕ = take s.kept s.list in
     let none : drop s.k s.list ≡ [] = drop_all s.k s.list (omega arith) in
-    let same = subst (λ behind. from_block next trees.place (blocks_by lumas (words ++ behind) s.values s.counts) (next_block (length lumas) behind) s.run s.r.left
+    let same = subst (λ behind. from_block next trees.place (blocks_by lumas (words ++ behind) s.values s.counts) (next_block (length lumas) behind) s.run s.bits.left
     ≡ at_place next trees.place [] (blocks_by lumas c.args.list.now c.args.values.now c.args.counts.now) c.args.active c.args.r.now.left) none s.invariant.same in
     let listing : IsListing (length lumas) (words ++ []) = subst (λ behind. IsListing (length lumas) (words ++ behind)) none s.invariant.listing in
     record {
-      value = sym same ∙ from_end next trees.place lumas words s.values s.counts s.run s.r.left s.invariant.values_are s.invariant.counts_are;
+      value = sym same ∙ from_end next trees.place lumas words s.values s.counts s.run s.bits.left s.invariant.values_are s.invariant.counts_are;
       list = (omega arith, subst (IsListing (length lumas)) (append-nil words) listing);
       end = s.invariant.end;
     }

@@ -11,12 +11,12 @@ use Rattle.thr_token.proofs.trees.PlaceTrees.at_place.Given as goal
 -- with the first of the latter
 abbrev pub invariant-list : goal.invariant-list
 invariant-list l = record {
-  end : SameEnd l.fn.r l.r;
+  end : SameEnd l.fn.r l.bits;
   low : l.kept ≤ l.k;
   values_are : length l.values ≡ length (lumas_of l.self.all.geom.now);
   counts_are : length l.counts ≡ length (lumas_of l.self.all.geom.now);
   listing : IsListing (length (lumas_of l.self.all.geom.now)) (take l.kept l.list ++ drop l.k l.list);
   same : from_block (token_in l.self.all.forest.now (as_numbers l.self.all.numbers)) l.self.place (blocks_by (lumas_of l.self.all.geom.now) (take l.kept l.list ++ drop l.k l.list) l.values l.counts)
-      (next_block (length (lumas_of l.self.all.geom.now)) (drop l.k l.list)) l.run l.r.left
+      (next_block (length (lumas_of l.self.all.geom.now)) (drop l.k l.list)) l.run l.bits.left
       ≡ at_place (token_in l.self.all.forest.now (as_numbers l.self.all.numbers)) l.self.place [] (blocks_by (lumas_of l.self.all.geom.now) l.fn.list l.fn.values l.fn.counts) l.active l.fn.r.left;
 }
