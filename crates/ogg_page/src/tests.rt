@@ -4,6 +4,7 @@ ghost use Rattle.ogg_page.specs.Page.{HasShape};
 use crate::read::total;
 use crate::*;
 use std::alloc::Global;
+use std::fmt::Debug;
 use std::process::Abort;
 
 // A page that is to be written: flags, granule position, serial and sequence number, lacing values, body.
@@ -51,6 +52,10 @@ fn written(rt: &impl Abort, alloc: Global, made: &Made) -> Vec<u8> {
     out
 }
 
+fn is_written(rt: &impl Abort, alloc: Global, made: &Made, bytes: &[u8]) {
+    assert!(rt; written(rt, alloc, made).as_slice() == bytes);
+}
+
 fn check_page(rt: &impl Abort, read: Result<PageRef, PageFault>, made: &Made)
     requires { IfOk read (λ page. HasShape page.lacing.now page.body.now) }
 {
@@ -62,8 +67,13 @@ fn check_page(rt: &impl Abort, read: Result<PageRef, PageFault>, made: &Made)
             assert!(rt; page.lacing == lacing && page.body == body);
             assert!(rt; page.size() == 27 + lacing.len() + body.len());
         }
-        Err(fault) => assert!(rt; false, "{}", fault.name()),
+        Err(fault) => holds(rt, false, &fault.name()),
     }
+}
+
+// A row of a table holds.
+fn holds(rt: &impl Abort, so: bool, row: &impl Debug) {
+    assert!(rt; so, "{row:?}");
 }
 
 // Whether these bytes are the page's checksum, and stand in its field.
@@ -106,13 +116,14 @@ fn pages_are_written_with_their_checksum_and_read_back(rt: HostRuntime) {
             [0x0a, 0x63, 0xe9, 0x56],
         ),
     ];
-    for (name, made, size, sum) in ROWS {
-        let out = written(&rt, rt.alloc(), &made);
-        assert!(rt; out.len() == size, "{name}");
-        assert!(rt; has_checksum(&out, sum), "{name}");
+    let rows = &ROWS;
+    for (name, made, size, sum) in rows {
+        let out = written(&rt, rt.alloc(), made);
+        holds(&rt, out.len() == *size, name);
+        holds(&rt, has_checksum(&out, *sum), name);
     }
-    assert!(rt; written(&rt, rt.alloc(), &ROWS[2].1).as_slice() == FRAME_PAGE.as_slice());
-    assert!(rt; written(&rt, rt.alloc(), &ROWS[3].1).as_slice() == EMPTY_PAGE.as_slice());
+    is_written(&rt, rt.alloc(), &rows[2].1, &FRAME_PAGE);
+    is_written(&rt, rt.alloc(), &rows[3].1, &EMPTY_PAGE);
 }
 
 // Its checksum was worked out bit by bit.
@@ -154,10 +165,10 @@ fn each_fault_has_a_smallest_input_and_its_place_in_the_order(rt: HostRuntime) {
             PageFault::Checksum,
         ),
     ];
-    for (name, bytes, fault) in ROWS {
+    for &(name, bytes, fault) in &ROWS {
         assert!(rt; !bytes.is_empty());
-        assert!(rt; read_page(bytes, 0).err() == Some(fault), "{name}");
-        assert!(rt; read_window(bytes).err() == Some(fault), "{name}");
+        holds(&rt, read_page(bytes, 0).err() == Some(fault), &name);
+        holds(&rt, read_window(bytes).err() == Some(fault), &name);
     }
     assert!(rt; read_window(&[]).err() == Some(PageFault::Truncated));
 }
@@ -165,13 +176,11 @@ fn each_fault_has_a_smallest_input_and_its_place_in_the_order(rt: HostRuntime) {
 #[test]
 fn a_page_cut_anywhere_is_truncated_and_a_changed_byte_is_found(rt: HostRuntime) {
     for n in 0..29 {
-        assert!(rt;
-            read_window(&FRAME_PAGE[..n]).err() == Some(PageFault::Truncated),
-            "{n} bytes"
-        );
+        let cut = read_window(&FRAME_PAGE[..n]).err();
+        holds(&rt, cut == Some(PageFault::Truncated), &("bytes", n));
         let mut changed = FRAME_PAGE;
         changed[n] ^= 1;
-        assert!(rt; read_page(&changed, 0).is_err(), "byte {n}");
+        holds(&rt, read_page(&changed, 0).is_err(), &("byte", n));
     }
 }
 
@@ -183,7 +192,7 @@ fn faults_have_the_numbers_30_to_33(rt: HostRuntime) {
         (PageFault::Checksum, 32, "Checksum"),
         (PageFault::Truncated, 33, "Truncated"),
     ];
-    for (fault, number, name) in ROWS {
+    for &(fault, number, name) in &ROWS {
         assert!(rt; fault.number() == number && fault.name() == name);
     }
 }

@@ -5,7 +5,8 @@ ghost use Rattle.vid_desk.specs.Meaning.{Appended, Causes, Grown, HasCause, Told
 
 use crate::*;
 use std::alloc::Global;
-use std::test::Fail;
+use std::fmt::Debug;
+use std::process::Abort;
 
 mod files;
 
@@ -120,30 +121,38 @@ const FAILING: [(usize, usize, &[u8], &[u8]); 9] = [
     (6, 0, b"bytes", b"text"),
 ];
 
-#[test]
-fn the_call_that_is_to_fail_fails_alone(rt: HostRuntime) -> Result<(), Fail> {
-    for (place, part, written, said) in FAILING {
-        let mut desk = prepared(rt.alloc())?;
-        let call = desk.calls().saturating_add(place as u64);
-        desk.fail_part_at(call, part)?;
-        let answers = six_calls(&mut desk);
-        assert!(rt; fails_alone(&answers, place), "at {place}");
-        assert!(rt; desk.output("out") == Some(written), "at {place}");
-        assert!(rt; desk.said() == said, "at {place}");
-    }
-    Ok(())
+// A row of a table holds.
+fn holds(rt: &impl Abort, so: bool, row: &impl Debug) {
+    assert!(rt; so, "at {row:?}");
+}
+
+// Of six calls on a new desk the one of a place fails alone, a part of its piece stands, and so are the output and what
+// was said.
+fn fails(rt: &impl Abort, alloc: Global, place: usize, part: usize, written: &[u8], said: &[u8]) {
+    let mut desk = prepared(alloc).expect(rt, "no desk");
+    let call = desk.calls().saturating_add(place as u64);
+    desk.fail_part_at(call, part).expect(rt, "no memory");
+    let answers = six_calls(&mut desk);
+    holds(rt, fails_alone(&answers, place), &place);
+    holds(rt, desk.output("out") == Some(written), &place);
+    holds(rt, desk.said() == said, &place);
 }
 
 #[test]
-fn a_desk_in_memory_gives_and_takes_bytes(rt: HostRuntime) -> Result<(), Fail> {
-    let mut desk = prepared(rt.alloc())?;
+fn the_call_that_is_to_fail_fails_alone(rt: HostRuntime) {
+    for &(place, part, written, said) in &FAILING {
+        fails(&rt, rt.alloc(), place, part, written, said);
+    }
+}
+
+#[test]
+fn a_desk_in_memory_gives_and_takes_bytes(rt: HostRuntime) {
+    let mut desk = prepared(rt.alloc()).expect(&rt, "no desk");
     assert!(rt; append_both(&mut desk, 0, 0, b"one, ", b"two").is_ok());
     assert!(rt; desk.output("out") == Some(b"one, two"));
-    let Some(bytes) = contents(&mut desk, rt.alloc(), "a")? else {
-        return Err(Fail::new("an input that is there was not found"));
-    };
+    let found = contents(&mut desk, rt.alloc(), "a").expect(&rt, "no contents");
+    let bytes = found.expect(&rt, "an input that is there was not found");
     assert!(rt; bytes.as_slice() == b"first".as_slice());
-    desk.fail_at(desk.calls())?;
-    assert_eq!(rt; desk.find("a"), Err(DeskFault::Failed));
-    Ok(())
+    assert!(rt; desk.fail_at(desk.calls()).is_ok());
+    assert!(rt; desk.find("a") == Err(DeskFault::Failed));
 }
