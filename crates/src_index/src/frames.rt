@@ -8,7 +8,7 @@ ghost use Rattle.src_index.specs.Quantiser.{quantiser_behind as quantiser_of};
 
 use crate::headers::Whole;
 use ogg_link::Counted;
-use thr_frame::check_blank;
+use thr_frame::check_frame;
 use vid_base::PacketFault;
 
 /// How many packets precede the frames.
@@ -54,7 +54,7 @@ impl Whole {
     {
         let frame = counted.number.saturating_sub(HEADERS);
         let setup = &self.headers.setup;
-        check_blank(
+        check_frame(
             &self.geom,
             &setup.header,
             packet,

@@ -5,7 +5,6 @@ ghost use Rattle.thr_huff.specs.TreeCode.{forest_code};
 ghost use Rattle.thr_ident.specs.Ident.{ident_of, header_of};
 ghost use Rattle.thr_setup.specs.Setup.{setup_of, contents};
 ghost use Rattle.thr_frame.specs.CodedFrame.{IsSized, frame_of};
-ghost use Rattle.thr_frame.specs.Parsed.{blank_values};
 ghost use Rattle.thr_frame.specs.Work.{IsWorkFor};
 ghost use Rattle.thr_ident.specs.Shape.{shape_of};
 
@@ -56,7 +55,6 @@ pub(crate) struct Whole {
     ghost shape: { geom ≡ shape_of (header_of headers.ident.header) },
     ghost sized: { IsSized geom (frame_of coded) },
     ghost room: { IsWorkFor geom work },
-    ghost blank: { coded.coeffs.values.items ≡ blank_values geom },
 }
 
 /// The headers that have ended.

@@ -22,7 +22,7 @@ mod residue;
 mod sources;
 mod work;
 
-pub use checking::{check_blank, check_frame};
+pub use checking::check_frame;
 pub use coded::Coded;
 pub use decoder::Decoder;
 pub use frame::rebuild_frame;

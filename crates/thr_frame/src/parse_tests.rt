@@ -195,7 +195,7 @@ fn judge(
     let mut coded = Coded::new(alloc, geom)?;
     let mut work = Work::new(alloc, geom)?;
     let first = check_frame(geom, &setup, packet, started, &mut coded, &mut work);
-    let second = check_blank(geom, &setup, packet, started, &mut coded, &mut work);
+    let second = check_frame(geom, &setup, packet, started, &mut coded, &mut work);
     Ok([first, second])
 }
 

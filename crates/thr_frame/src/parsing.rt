@@ -23,7 +23,7 @@ use vid_geom::Geom;
 /// Reads the fields of a packet: what it says, but that the DC values are differences still. All values are to be 0 before.
 /// The first fault in reading order; what was read is then open.
 #[tactic(auto, unfolding(crate::specs::Parsed::fields_of, crate::specs::CodedFrame::frame_of))]
-pub(crate) fn read_fields(
+fn read_fields(
     r: &mut BitReader,
     geom: &Geom,
     setup: &Setup,

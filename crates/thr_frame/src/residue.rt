@@ -4,6 +4,7 @@ ghost use Rattle.vid_base.specs.Reading.{Gives, SameEnd};
 ghost use Rattle.vid_geom.specs.CodedOrder.{order_of};
 ghost use Rattle.thr_setup.specs.Setup.{contents};
 ghost use Rattle.thr_token.specs.Coefficients.{coefficients};
+ghost use Rattle.thr_token.specs.Passing.{Passes};
 ghost use Rattle.thr_token.specs.Tokenised.{AreBlank};
 ghost use Rattle.thr_frame.specs.Parsed.{blank_values, residue_of};
 ghost use Rattle.thr_frame.specs.Views.{residue_with};
@@ -11,7 +12,7 @@ ghost use Rattle.thr_frame.specs.Views.{residue_with};
 use crate::motion::is_any_coded;
 use crate::places::read_places;
 use thr_setup::Setup;
-use thr_token::{Coeffs, read_tokens_with};
+use thr_token::{Coeffs, check_tokens, read_tokens_with};
 use vid_base::{BitReader, PacketFault};
 use vid_geom::Geom;
 
@@ -75,4 +76,31 @@ pub(crate) fn read_residue(
     read_places(r, flags, count, places, marks)?;
     let Coeffs { values, counts } = coeffs;
     read_values(r, setup, geom, flags, values, counts, waiting)
+}
+
+/// Checks them, as `read_residue` reads them: the same bits are taken, and no coefficient is kept.
+#[tactic(auto, unfolding(crate::specs::Parsed::residue_of))]
+pub(crate) fn check_residue(
+    r: &mut BitReader,
+    setup: &Setup,
+    geom: &Geom,
+    flags: &[bool],
+    count: u8,
+    places: &mut [u8],
+    marks: &mut [bool],
+) -> Result<(), PacketFault>
+    requires flags { length flags.now ≡ length (order_of geom.now) }
+    requires some { 0 < count }
+    requires few { count ≤ 3 }
+    requires places { length places.old ≡ length (order_of geom.now) }
+    requires marks { length flags.now ≤ length marks.old }
+    ensures value { Passes result r.new.left (residue_of (contents setup.now) geom.now count flags.now r.old.left) }
+    ensures end { SameEnd r.old r.new }
+{
+    if !is_any_coded(flags) {
+        return Ok(());
+    }
+    read_places(r, flags, count, places, marks)?;
+    check_tokens(r, &setup.forest, geom, flags)?;
+    Ok(())
 }
