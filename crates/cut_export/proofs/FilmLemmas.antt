@@ -33,7 +33,7 @@ use Rattle.y4m_io.specs.Heads.{head_of_ident}
 use Rattle.y4m_io.specs.Crop.{crop_of, shape_of}
 use Rattle.y4m_io.specs.Y4m.{frame_text, head_text, y4m_of}
 use Rattle.cut_report.specs.declared.status.Status.{Status}
-use Rattle.cut_report.specs.declared.status.Status.TheVariants.{Changed, NoMem, ReadFault, WriteFault}
+use Rattle.cut_report.specs.declared.status.Status.TheVariants.{Changed, ReadFault, WriteFault}
 use Rattle.cut_desk.specs.Growing.{Grows}
 use Rattle.cut_desk.specs.Outputs.{MakesAtMost}
 use Rattle.cut_desk.specs.Statuses.{writing_status}

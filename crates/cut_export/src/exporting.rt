@@ -76,7 +76,7 @@ pub fn export<D: Desk>(
         Ok(id) => id,
         Err(fault) => return Err(writing(fault)),
     };
-    match film.add_head(desk, source, id) {
+    match film.add_head(alloc, desk, source, id) {
         Ok(()) => {}
         Err(status) => return Err(status),
     }

@@ -20,10 +20,13 @@ use thr_frame::Decoder;
 use thr_ident::Ident;
 use vid_base::NoMem;
 use vid_desk::Desk;
-use y4m_io::{Head, Picture, write_frame, write_head};
+use y4m_io::{Head, Picture, write_head};
 
 /// A source has one link, the first.
 const LINK: u32 = 1;
+
+/// The line before a picture's planes.
+const LINE: [u8; 6] = *b"FRAME\n";
 
 /// What an export works with. It is made once, and used for each frame.
 #[derive(Drop)]
@@ -32,7 +35,6 @@ pub(crate) struct Film {
     decoder: Decoder,
     picture: Picture,
     packet: Vec<u8>,
-    text: Vec<u8>,
 }
 
 // The status of a packet that was not read again.
@@ -43,6 +45,38 @@ fn reread(fault: SourceFault) -> Status
         SourceFault::ReadFault => Status::ReadFault,
         SourceFault::NoMem => Status::NoMem,
         _ => Status::Changed,
+    }
+}
+
+// Appends a piece to the output.
+fn add<D: Desk>(desk: &mut D, id: u32, piece: &[u8]) -> Result<(), Status>
+    requires id { id < (D.sees desk.old).made }
+    ensures added { OnOk result (Grows (D.sees desk.old) (D.sees desk.new) id piece.now) }
+    ensures part { OnErr result ((came : List ℕ) × Grows (D.sees desk.old) (D.sees desk.new) id came) }
+    ensures cause { IsErrOf result Status.WriteFault → Rose (D.sees desk.old).write_faults (D.sees desk.new).write_faults }
+    ensures only { IfErr result IsWriting }
+{
+    match desk.append(id, piece) {
+        Ok(()) => Ok(()),
+        Err(fault) => Err(writing(fault)),
+    }
+}
+
+// Appends two pieces to the output.
+fn add_both<D: Desk>(desk: &mut D, id: u32, one: &[u8], other: &[u8]) -> Result<(), Status>
+    requires id { id < (D.sees desk.old).made }
+    ensures added { OnOk result (Grows (D.sees desk.old) (D.sees desk.new) id (one.now ++ other.now)) }
+    ensures part { OnErr result ((came : List ℕ) × Grows (D.sees desk.old) (D.sees desk.new) id came) }
+    ensures cause { IsErrOf result Status.WriteFault → Rose (D.sees desk.old).write_faults (D.sees desk.new).write_faults }
+    ensures only { IfErr result IsWriting }
+{
+    match add(desk, id, one) {
+        Ok(()) => {}
+        Err(status) => return Err(status),
+    }
+    match add(desk, id, other) {
+        Ok(()) => Ok(()),
+        Err(status) => Err(status),
     }
 }
 
@@ -60,7 +94,6 @@ impl Film {
             decoder,
             picture,
             packet: Vec::new(alloc),
-            text: Vec::new(alloc),
         })
     }
 
@@ -103,7 +136,7 @@ impl Film {
         Ok(())
     }
 
-    // Appends the picture to the output.
+    // Appends the picture to the output, its planes from where they lie.
     fn append<D: Desk>(&mut self, desk: &mut D, source: &Source, id: u32) -> Result<(), Status>
         requires id { id < (D.sees desk.old).made }
         requires film { IsFilmOf source.now self.old }
@@ -115,19 +148,20 @@ impl Film {
         ensures cause { IsErrOf result Status.WriteFault → Rose (D.sees desk.old).write_faults (D.sees desk.new).write_faults }
         ensures only { IfErr result IsWriting }
     {
-        self.text.clear();
-        if write_frame(&mut self.text, &self.picture).is_err() {
-            return Err(Status::NoMem);
+        match add_both(desk, id, &LINE, &self.picture.y) {
+            Ok(()) => {}
+            Err(status) => return Err(status),
         }
-        match desk.append(id, &self.text) {
+        match add_both(desk, id, &self.picture.cb, &self.picture.cr) {
             Ok(()) => Ok(()),
-            Err(fault) => Err(writing(fault)),
+            Err(status) => Err(status),
         }
     }
 
     /// Appends the head of the pictures.
     pub(crate) fn add_head<D: Desk>(
         &mut self,
+        alloc: Global,
         desk: &mut D,
         source: &Source,
         id: u32,
@@ -142,13 +176,13 @@ impl Film {
         ensures cause { IsErrOf result Status.WriteFault → Rose (D.sees desk.old).write_faults (D.sees desk.new).write_faults }
         ensures only { IfErr result IsWriting }
     {
-        self.text.clear();
-        if write_head(&mut self.text, &Head::of(&self.ident)).is_err() {
+        let mut text = Vec::new(alloc);
+        if write_head(&mut text, &Head::of(&self.ident)).is_err() {
             return Err(Status::NoMem);
         }
-        match desk.append(id, &self.text) {
+        match add(desk, id, &text) {
             Ok(()) => Ok(()),
-            Err(fault) => Err(writing(fault)),
+            Err(status) => Err(status),
         }
     }
 

@@ -1,5 +1,4 @@
 use Rattle.std.proofs.Common.{◌≡◌, ◌∙◌, ◌++◌, ℕ, [], refl, subst, arith}
-use Rattle.vid_desk.specs.Meaning.{Meaning}
 use Rattle.src_index.specs.Index.{frame_count}
 use Rattle.cut_desk.proofs.GrowingLemmas.{grows_none, grows_onto, grows_twice}
 use Rattle.cut_export.specs.Films.{FilmIsFar}

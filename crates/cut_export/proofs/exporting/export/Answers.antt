@@ -5,7 +5,7 @@ use Rattle.y4m_io.specs.Y4m.{head_text}
 use Rattle.cut_desk.specs.Growing.{IsGrowing}
 use Rattle.cut_desk.proofs.GrowingLemmas.{grown_at_most, growing_more, growing_new, makes_grown}
 use Rattle.cut_export.specs.Exported.{IsExport}
-use Rattle.cut_export.proofs.FilmLemmas.{created_none, exported, grown_inputs, index_by, writing_not_changed, writing_not_read, writing_only, writing_rose}
+use Rattle.cut_export.proofs.FilmLemmas.{created_none, exported, index_by, writing_not_changed, writing_not_read, writing_only, writing_rose}
 use Rattle.cut_export.proofs.exporting.export.Goals as goal
 
 pub returns-in-Err-clause-never : goal.returns-in-Err-clause-never

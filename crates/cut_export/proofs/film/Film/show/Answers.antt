@@ -1,4 +1,4 @@
-use Rattle.std.proofs.Common.{◌≡◌, ◌∙◌, ap}
+use Rattle.std.proofs.Common.{◌∙◌, ap}
 use Rattle.thr_frame.specs.Decoding.{Decoding}
 use Rattle.cut_export.proofs.FilmLemmas.{film_frame}
 use Rattle.cut_export.proofs.film.Film.show.Goals as goal
