@@ -100,7 +100,7 @@ fn a_refused_export_creates_no_output(rt: HostRuntime) {
 
 #[test]
 fn a_call_that_fails_leaves_a_first_part_of_the_pictures(rt: HostRuntime) {
-    // The calls are a find, a size, a read, the creation, the head, a page read again, its picture, and the line.
+    // The calls are a find, a size, a read, the creation, the head, a page read again, its picture in four pieces, and the line.
     let file = film(&rt, &[&KEY, &[]]);
     let text = text_of(&rt, &[128, 128]);
     for (call, part, status, left, line) in [
@@ -111,11 +111,14 @@ fn a_call_that_fails_leaves_a_first_part_of_the_pictures(rt: HostRuntime) {
         (4, 0, 9, Some(0), "fault 9 write\n"),
         (4, 10, 9, Some(10), "fault 9 write\n"),
         (5, 0, 8, Some(41), "fault 8 read\n"),
-        (6, 100, 9, Some(141), "fault 9 write\n"),
-        (7, 0, 8, Some(431), "fault 8 read\n"),
-        (8, 389, 9, Some(820), "fault 9 write\n"),
-        (9, 3, 9, Some(821), "expfault 9 write\n"),
-        (10, 0, 0, Some(821), "exported 2\n"),
+        (6, 3, 9, Some(44), "fault 9 write\n"),
+        (7, 100, 9, Some(147), "fault 9 write\n"),
+        (8, 0, 9, Some(303), "fault 9 write\n"),
+        (9, 63, 9, Some(430), "fault 9 write\n"),
+        (10, 0, 8, Some(431), "fault 8 read\n"),
+        (14, 63, 9, Some(820), "fault 9 write\n"),
+        (15, 3, 9, Some(821), "expfault 9 write\n"),
+        (16, 0, 0, Some(821), "exported 2\n"),
     ] {
         let mut desk = MemDesk::new(rt.alloc());
         assert!(rt; desk.add_input("S", &file).is_ok());
