@@ -1,6 +1,7 @@
 use crate::cut;
 use cut_report::Status;
 use ogg_page::read_page;
+use std::fmt::Debug;
 use std::process::Abort;
 use vid_desk::{Desk, MemDesk};
 
@@ -65,50 +66,65 @@ fn status_of(rt: &(impl Abort + AllocGlobal), desk: &mut MemDesk) -> Status {
     }
 }
 
-#[test]
-fn a_slice_from_a_key_frame_is_copied(rt: HostRuntime) {
-    let mut desk = desk_with(&rt, b"oggcut 1\nslice 1 2 3\n", &SOURCE);
-    assert_eq!(rt; status_of(&rt, &mut desk), Status::Done);
-    assert!(rt; desk.output("O") == Some(LAST_FRAME.as_slice()));
+// A row of a table holds.
+fn holds(rt: &impl Abort, so: bool, row: &impl Debug) {
+    assert!(rt; so, "{row:?}");
+}
+
+// A list cuts these bytes out of a source, and nothing is said.
+fn gives(rt: &(impl Abort + AllocGlobal), text: &[u8], source: &[u8], bytes: &[u8]) {
+    let mut desk = desk_with(rt, text, source);
+    assert!(rt; status_of(rt, &mut desk) == Status::Done);
+    assert!(rt; desk.output("O") == Some(bytes));
     assert!(rt; desk.said().is_empty());
-    let mut desk = desk_with(&rt, b"oggcut 1\nslice 1 0 2\n", &SOURCE);
-    assert_eq!(rt; status_of(&rt, &mut desk), Status::Done);
-    assert!(rt; desk.output("O") == Some(FIRST_TWO.as_slice()));
 }
 
 #[test]
+fn a_slice_from_a_key_frame_is_copied(rt: HostRuntime) {
+    gives(&rt, b"oggcut 1\nslice 1 2 3\n", &SOURCE, &LAST_FRAME);
+    gives(&rt, b"oggcut 1\nslice 1 0 2\n", &SOURCE, &FIRST_TWO);
+}
+
+// Whether a list and a source have a status, and an output just where all is done.
+fn has(rt: &(impl Abort + AllocGlobal), text: &[u8], source: &[u8], status: Status) -> bool {
+    let mut desk = desk_with(rt, text, source);
+    let got = status_of(rt, &mut desk);
+    got == status && desk.output("O").is_some() == (status == Status::Done)
+}
+
+// Lists, and the status that each has.
+const LISTS: [(&[u8], Status); 22] = [
+    (b"oggcut 1\nslice 1 2 3\n", Status::Done),
+    (b"oggcut 1\nslice 1 0 3\n", Status::Done),
+    (b"oggcut 1\nslice 1 1 2\n", Status::InPointNotKey),
+    (b"oggcut 1\nslice 1 1 3\n", Status::InPointNotKey),
+    (b"oggcut 1\nslice 1 0 4\n", Status::NotYet),
+    (b"oggcut 1\nslice 1 3 4\n", Status::NotYet),
+    (b"", Status::NotYet),
+    (b"oggcut 1\n", Status::NotYet),
+    (b"oggcut 2\nslice 1 0 1\n", Status::NotYet),
+    (b"oggcut 1\r\nslice 1 0 1\n", Status::NotYet),
+    (b"oggcut 1\nslice 1 0 1\r\n", Status::NotYet),
+    (b"oggcut 1\nslice 1 0 1\n\n", Status::NotYet),
+    (b"oggcut 1\n\nslice 1 0 1\n", Status::NotYet),
+    (b"oggcut 1\nslice 1 0 1", Status::NotYet),
+    (b"oggcut 1\nslice 1 1 1\n", Status::NotYet),
+    (b"oggcut 1\nslice 1 2 1\n", Status::NotYet),
+    (b"oggcut 1\nslice 1 00 1\n", Status::NotYet),
+    (b"oggcut 1\nslice 2 0 1\n", Status::NotYet),
+    (b"oggcut 1\nslice 1 0 2147483647\n", Status::NotYet),
+    (b"oggcut 1\nslice 1 0 2147483648\n", Status::NotYet),
+    (
+        b"oggcut 1\nslice 1 0 99999999999999999999\n",
+        Status::NotYet,
+    ),
+    (b"oggcut 1\nslice 1  0 1\n", Status::NotYet),
+];
+
+#[test]
 fn lists_and_ranges_have_their_status(rt: HostRuntime) {
-    let rows: [(&[u8], Status); 22] = [
-        (b"oggcut 1\nslice 1 2 3\n", Status::Done),
-        (b"oggcut 1\nslice 1 0 3\n", Status::Done),
-        (b"oggcut 1\nslice 1 1 2\n", Status::InPointNotKey),
-        (b"oggcut 1\nslice 1 1 3\n", Status::InPointNotKey),
-        (b"oggcut 1\nslice 1 0 4\n", Status::NotYet),
-        (b"oggcut 1\nslice 1 3 4\n", Status::NotYet),
-        (b"", Status::NotYet),
-        (b"oggcut 1\n", Status::NotYet),
-        (b"oggcut 2\nslice 1 0 1\n", Status::NotYet),
-        (b"oggcut 1\r\nslice 1 0 1\n", Status::NotYet),
-        (b"oggcut 1\nslice 1 0 1\r\n", Status::NotYet),
-        (b"oggcut 1\nslice 1 0 1\n\n", Status::NotYet),
-        (b"oggcut 1\n\nslice 1 0 1\n", Status::NotYet),
-        (b"oggcut 1\nslice 1 0 1", Status::NotYet),
-        (b"oggcut 1\nslice 1 1 1\n", Status::NotYet),
-        (b"oggcut 1\nslice 1 2 1\n", Status::NotYet),
-        (b"oggcut 1\nslice 1 00 1\n", Status::NotYet),
-        (b"oggcut 1\nslice 2 0 1\n", Status::NotYet),
-        (b"oggcut 1\nslice 1 0 2147483647\n", Status::NotYet),
-        (b"oggcut 1\nslice 1 0 2147483648\n", Status::NotYet),
-        (
-            b"oggcut 1\nslice 1 0 99999999999999999999\n",
-            Status::NotYet,
-        ),
-        (b"oggcut 1\nslice 1  0 1\n", Status::NotYet),
-    ];
-    for (text, status) in rows {
-        let mut desk = desk_with(&rt, text, &SOURCE);
-        assert_eq!(rt; status_of(&rt, &mut desk), status);
-        assert_eq!(rt; desk.output("O").is_some(), status == Status::Done);
+    for &(text, status) in &LISTS {
+        holds(&rt, has(&rt, text, &SOURCE, status), &text);
     }
 }
 
@@ -152,94 +168,116 @@ const OTHER_SOURCES: [(&str, [(usize, u8); 5]); 9] = [
     ),
 ];
 
+// The source with some of its bytes changed.
+fn changed(changes: &[(usize, u8); 5]) -> [u8; 208] {
+    let mut source = SOURCE;
+    for &(at, byte) in changes {
+        if at < source.len() {
+            source[at] = byte;
+        }
+    }
+    source
+}
+
 #[test]
 fn sources_that_are_not_plain_are_not_yet_cut(rt: HostRuntime) {
-    for (name, changes) in OTHER_SOURCES {
-        let mut source = SOURCE;
-        for (at, byte) in changes {
-            if at < source.len() {
-                source[at] = byte;
-            }
-        }
-        let mut desk = desk_with(&rt, b"oggcut 1\nslice 1 0 1\n", &source);
-        assert_eq!(rt; status_of(&rt, &mut desk), Status::NotYet, "{name}");
-        assert!(rt; desk.output("O").is_none(), "{name}");
+    for (name, changes) in &OTHER_SOURCES {
+        let list = b"oggcut 1\nslice 1 0 1\n";
+        holds(&rt, has(&rt, list, &changed(changes), Status::NotYet), name);
     }
     for count in 0..SOURCE.len() {
-        let mut desk = desk_with(&rt, b"oggcut 1\nslice 1 0 3\n", &SOURCE[..count]);
-        assert_eq!(rt; status_of(&rt, &mut desk), Status::NotYet, "{count}");
+        let list = b"oggcut 1\nslice 1 0 3\n";
+        holds(
+            &rt,
+            has(&rt, list, &SOURCE[..count], Status::NotYet),
+            &count,
+        );
     }
 }
 
 #[test]
 fn the_last_page_may_have_its_flag(rt: HostRuntime) {
-    let mut source = SOURCE;
-    for (at, byte) in [(184usize, 4), (201, 10), (202, 162), (203, 82), (204, 207)] {
-        if at < source.len() {
-            source[at] = byte;
-        }
-    }
-    let mut desk = desk_with(&rt, b"oggcut 1\nslice 1 2 3\n", &source);
-    assert_eq!(rt; status_of(&rt, &mut desk), Status::Done);
-    assert!(rt; desk.output("O") == Some(LAST_FRAME.as_slice()));
+    let source = changed(&[(184, 4), (201, 10), (202, 162), (203, 82), (204, 207)]);
+    gives(&rt, b"oggcut 1\nslice 1 2 3\n", &source, &LAST_FRAME);
+}
+
+// Names of a list, an output and a source, and the status that they have.
+const NAMES: [(&str, &str, &str, Status); 4] = [
+    ("L", "L", "S", Status::NotYet),
+    ("L", "S", "S", Status::NotYet),
+    ("X", "O", "Y", Status::NoFile { input: 1 }),
+    ("L", "O", "X", Status::NoFile { input: 2 }),
+];
+
+// Whether a cut of these names is refused, and leaves no output.
+fn is_refused(
+    rt: &(impl Abort + AllocGlobal),
+    list: &str,
+    out: &str,
+    source: &str,
+    status: Status,
+) -> bool {
+    let mut desk = desk_with(rt, b"oggcut 1\nslice 1 2 3\n", &SOURCE);
+    let answer = cut(rt.alloc(), &mut desk, list, out, source);
+    answer == Err(status) && desk.output("O").is_none()
 }
 
 #[test]
 fn names_have_their_status(rt: HostRuntime) {
-    for (list, out, source, status) in [
-        ("L", "L", "S", Status::NotYet),
-        ("L", "S", "S", Status::NotYet),
-        ("X", "O", "Y", Status::NoFile { input: 1 }),
-        ("L", "O", "X", Status::NoFile { input: 2 }),
-    ] {
-        let mut desk = desk_with(&rt, b"oggcut 1\nslice 1 2 3\n", &SOURCE);
-        assert!(rt; cut(rt.alloc(), &mut desk, list, out, source) == Err(status));
-        assert!(rt; desk.output("O").is_none());
+    for &(list, out, source, status) in &NAMES {
+        holds(
+            &rt,
+            is_refused(&rt, list, out, source, status),
+            &(list, out, source),
+        );
+    }
+}
+
+// Whether a cut of which one call fails is told as that, and leaves a first part of its output from the call on that
+// follows its creation. The calls are two finds, two sizes, two reads, one create and three appends.
+fn is_told(rt: &(impl Abort + AllocGlobal), call: u64) -> bool {
+    let mut desk = desk_with(rt, b"oggcut 1\nslice 1 2 3\n", &SOURCE);
+    assert!(rt; desk.fail_at(call).is_ok());
+    let fault = if call < 6 {
+        Status::ReadFault
+    } else {
+        Status::WriteFault
+    };
+    let got = status_of(rt, &mut desk);
+    got == fault && leaves_a_first_part(desk.output("O"), call)
+}
+
+fn leaves_a_first_part(output: Option<&[u8]>, call: u64) -> bool {
+    match output {
+        Some(bytes) => call > 6 && LAST_FRAME.starts_with(bytes),
+        None => call <= 6,
     }
 }
 
 #[test]
 fn each_call_that_fails_is_told_and_leaves_a_first_part(rt: HostRuntime) {
-    // The calls are two finds, two sizes, two reads, one create and three appends.
     for call in 0..10u64 {
-        let mut desk = desk_with(&rt, b"oggcut 1\nslice 1 2 3\n", &SOURCE);
-        assert!(rt; desk.fail_at(call).is_ok());
-        let status = status_of(&rt, &mut desk);
-        let reads = call < 6;
-        assert_eq!(rt;
-            status,
-            if reads {
-                Status::ReadFault
-            } else {
-                Status::WriteFault
-            },
-            "{call}"
-        );
-        match desk.output("O") {
-            Some(bytes) => {
-                assert!(rt; call > 6);
-                assert!(rt; LAST_FRAME.starts_with(bytes));
-            }
-            None => assert!(rt; call <= 6),
-        }
+        holds(&rt, is_told(&rt, call), &call);
     }
 }
 
+// Where a page of the last frame's cut stands, its flags, number and granule position, and its size.
+const PAGES: [(usize, u8, u32, u64, usize); 3] = [
+    (0, 2, 0, 0, 70),
+    (70, 0, 1, 0, 51),
+    (121, 4, 2, 64, 29),
+];
+
 #[test]
 fn the_pages_of_a_cut_are_those_that_the_format_asks_for(rt: HostRuntime) {
-    for (at, flags, number, granule, size) in [
-        (0usize, 2u8, 0u32, 0u64, 70usize),
-        (70, 0, 1, 0, 51),
-        (121, 4, 2, 64, 29),
-    ] {
-        if at < LAST_FRAME.len() {
-            match read_page(&LAST_FRAME, at) {
-                Ok(page) => {
-                    assert_eq!(rt; (page.flags, page.serial, page.number), (flags, 1, number));
-                    assert_eq!(rt; (page.granule, page.size()), (granule, size));
-                }
-                Err(_) => assert!(rt; false),
+    for &(at, flags, number, granule, size) in &PAGES {
+        assert!(rt; at < LAST_FRAME.len());
+        match read_page(&LAST_FRAME, at) {
+            Ok(page) => {
+                assert!(rt; page.flags == flags && page.serial == 1 && page.number == number);
+                assert!(rt; page.granule == granule && page.size() == size);
             }
+            Err(_) => assert!(rt; false),
         }
     }
 }
