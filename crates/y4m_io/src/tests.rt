@@ -2,16 +2,21 @@ ghost use Rattle.std.specs.Prelude.{◌≡◌, ◌<◌, IfOk};
 ghost use Rattle.vid_plane.specs.Picture.{IsLike};
 ghost use Rattle.vid_plane.specs.Frames.{IsFrameOf};
 ghost use Rattle.y4m_io.specs.Crop.{shape_of};
+ghost use Rattle.y4m_io.specs.Pictures.{samples_of, IsPicture, IsSize};
 
 use crate::*;
 use std::alloc::Global;
+use std::fmt::Debug;
 use std::process::Abort;
-use std::test::Fail;
 use thr_ident::{Ident, read_ident};
-use vid_base::NoMem;
 use vid_plane::{Frame, Plane};
 
 mod refusals;
+
+// A row of a table holds.
+fn holds(rt: &impl Abort, so: bool, row: &impl Debug) {
+    assert!(rt; so, "{row:?}");
+}
 
 /// An identification header of a coded frame of 16 by 16 samples: the picture's width and height, its place, and the format.
 fn ident(rt: &impl Abort, [w, h, x, y, pf]: [u8; 5]) -> Ident {
@@ -39,23 +44,24 @@ fn draw(plane: &mut Plane)
 }
 
 #[tactic(auto, using(crate::proofs::CropLemmas::frame_of_ident))]
-fn drawn_frame(alloc: Global, ident: &Ident) -> Result<Frame, NoMem>
-    ensures { IfOk result (λ frame. IsFrameOf (shape_of ident.now) frame) }
+fn drawn_frame(rt: &impl Abort, alloc: Global, ident: &Ident) -> Frame
+    ensures { IsFrameOf (shape_of ident.now) result }
 {
-    let mut frame = Frame::new(alloc, ident.shape())?;
+    let mut frame = Frame::new(alloc, ident.shape()).expect(rt, "no memory");
     draw(&mut frame.y);
     draw(&mut frame.cb);
     draw(&mut frame.cr);
-    Ok(frame)
+    frame
 }
 
 #[tactic(auto, using(crate::proofs::CropLemmas::size_of_ident))]
-fn cropped(rt: &impl Abort, alloc: Global, header: [u8; 5]) -> Result<Picture, NoMem> {
+fn cropped(rt: &impl Abort, alloc: Global, header: [u8; 5]) -> Picture {
     let ident = ident(rt, header);
-    let frame = drawn_frame(alloc, &ident)?;
-    let mut picture = Picture::new(alloc, ident.picw, ident.pich, ident.pf)?;
+    let frame = drawn_frame(rt, alloc, &ident);
+    let picture = Picture::new(alloc, ident.picw, ident.pich, ident.pf);
+    let mut picture = picture.expect(rt, "no memory");
     picture.crop(&frame, &ident);
-    Ok(picture)
+    picture
 }
 
 /// Width, height, column and row of the picture in the frame, and the format; then its luma and its chroma, from the top.
@@ -80,35 +86,42 @@ const CROPS: [([u8; 5], &[u8], &[u8]); 6] = [
     ([1, 1, 0, 0, 3], &[0], &[0]),
 ];
 
-#[test]
-fn a_picture_is_cut_out_of_a_frame_from_the_top_row_down(rt: HostRuntime) -> Result<(), Fail> {
-    for (header, luma, chroma) in CROPS {
-        let picture = cropped(&rt, rt.alloc(), header)?;
-        assert!(rt; picture.y.as_slice() == luma, "luma of {header:?}");
-        assert!(rt; picture.cb.as_slice() == chroma, "cb of {header:?}");
-        assert!(rt; picture.cr.as_slice() == chroma, "cr of {header:?}");
-    }
-    Ok(())
+// A picture has these samples.
+fn shows(rt: &impl Abort, picture: &Picture, luma: &[u8], cb: &[u8], cr: &[u8], row: &impl Debug) {
+    holds(rt, picture.y.as_slice() == luma, row);
+    holds(rt, picture.cb.as_slice() == cb, row);
+    holds(rt, picture.cr.as_slice() == cr, row);
 }
 
 #[test]
-fn memory_is_found_for_the_greatest_pictures(rt: HostRuntime) -> Result<(), Fail> {
+fn a_picture_is_cut_out_of_a_frame_from_the_top_row_down(rt: HostRuntime) {
+    for &(header, luma, chroma) in &CROPS {
+        let picture = cropped(&rt, rt.alloc(), header);
+        shows(&rt, &picture, luma, chroma, chroma, &header);
+    }
+}
+
+// Whether a picture of this size is written in the bytes of its samples and of a frame's line.
+fn is_written_whole(rt: &impl Abort, alloc: Global, w: u32, h: u32, pf: u8) -> bool
+    requires { IsSize w h pf }
+{
+    let picture = Picture::new(alloc, w, h, pf).expect(rt, "no memory");
+    let mut out = Vec::new(alloc);
+    assert!(rt; write_frame(&mut out, &picture).is_ok());
+    assert!(rt; picture.y.len() < 1 << 40 && picture.cb.len() < 1 << 40);
+    out.len() == 6 + picture.y.len() + 2 * picture.cb.len()
+}
+
+#[test]
+fn memory_is_found_for_the_greatest_pictures(rt: HostRuntime) {
     for (w, h, pf) in [
         (1, 1, 0),
         (1, 2_097_152, 0),
         (2_097_152, 1, 2),
         (8192, 4096, 3),
     ] {
-        let picture = Picture::new(rt.alloc(), w, h, pf)?;
-        let mut out = Vec::new(rt.alloc());
-        write_frame(&mut out, &picture)?;
-        assert_eq!(rt;
-            out.len() as u64,
-            6 + picture.y.len() as u64 + 2 * picture.cb.len() as u64,
-            "{w} by {h}"
-        );
+        holds(&rt, is_written_whole(&rt, rt.alloc(), w, h, pf), &(w, h));
     }
-    Ok(())
 }
 
 /// Heads, as they are written.
@@ -151,15 +164,19 @@ const HEADS: [(Head, &[u8]); 3] = [
     ),
 ];
 
+// Whether a head is written as this text.
+fn is_written(rt: &impl Abort, alloc: Global, head: &Head, text: &[u8]) -> bool {
+    assert!(rt; head.pf <= 3 && head.pf != 1);
+    let mut out = Vec::new(alloc);
+    assert!(rt; write_head(&mut out, head).is_ok());
+    out.as_slice() == text
+}
+
 #[test]
-fn a_head_has_its_numbers_and_the_name_of_its_format(rt: HostRuntime) -> Result<(), Fail> {
-    for (head, text) in HEADS {
-        assert!(rt; head.pf <= 3 && head.pf != 1);
-        let mut out = Vec::new(rt.alloc());
-        write_head(&mut out, &head)?;
-        assert!(rt; out.as_slice() == text, "{head:?}");
+fn a_head_has_its_numbers_and_the_name_of_its_format(rt: HostRuntime) {
+    for (head, text) in &HEADS {
+        holds(&rt, is_written(&rt, rt.alloc(), head, text), head);
     }
-    Ok(())
 }
 
 // Whether a part of a text stands at a place.
@@ -185,18 +202,26 @@ const MADE: [(usize, &[u8]); 5] = [
     (367, &[160, 160, 160, 160, 160, 160, 160, 160]),
 ];
 
+// A picture of a made film in 4:2:0.
+fn made(rt: &impl Abort, alloc: Global, w: u32, h: u32, start: u32, n: u32) -> Picture
+    requires { IsSize w h 0 }
+    ensures { IsPicture (samples_of result) }
+{
+    let mut picture = Picture::new(alloc, w, h, 0).expect(rt, "no memory");
+    make_frame(&mut picture, start, n);
+    picture
+}
+
 #[test]
-fn a_made_film_of_16_by_16_has_431_bytes_for_a_frame(rt: HostRuntime) -> Result<(), Fail> {
-    let mut picture = Picture::new(rt.alloc(), 16, 16, 0)?;
-    make_frame(&mut picture, 0, 0);
+fn a_made_film_of_16_by_16_has_431_bytes_for_a_frame(rt: HostRuntime) {
+    let picture = made(&rt, rt.alloc(), 16, 16, 0, 0);
     let mut out = Vec::new(rt.alloc());
-    write_head(&mut out, &Head::generated(16, 16))?;
-    write_frame(&mut out, &picture)?;
+    assert!(rt; write_head(&mut out, &Head::generated(16, 16)).is_ok());
+    assert!(rt; write_frame(&mut out, &picture).is_ok());
     assert_eq!(rt; out.len(), 431);
-    for (at, part) in MADE {
-        assert!(rt; stands_at(&out, at, part), "byte {at}");
+    for &(at, part) in &MADE {
+        holds(&rt, stands_at(&out, at, part), &at);
     }
-    Ok(())
 }
 
 /// Start and frame, and the picture of 2 by 2: four samples of luma, one of Cb and one of Cr.
@@ -210,15 +235,11 @@ const FILMS: [(u32, u32, &[u8], &[u8], &[u8]); 6] = [
 ];
 
 #[test]
-fn films_move_and_begin_where_they_are_told_to(rt: HostRuntime) -> Result<(), Fail> {
-    for (start, n, luma, cb, cr) in FILMS {
-        let mut picture = Picture::new(rt.alloc(), 2, 2, 0)?;
-        make_frame(&mut picture, start, n);
-        assert!(rt; picture.y.as_slice() == luma, "luma of {start} {n}");
-        assert!(rt; picture.cb.as_slice() == cb, "cb of {start} {n}");
-        assert!(rt; picture.cr.as_slice() == cr, "cr of {start} {n}");
+fn films_move_and_begin_where_they_are_told_to(rt: HostRuntime) {
+    for &(start, n, luma, cb, cr) in &FILMS {
+        let picture = made(&rt, rt.alloc(), 2, 2, start, n);
+        shows(&rt, &picture, luma, cb, cr, &(start, n));
     }
-    Ok(())
 }
 
 /// A place of a frame of 16 by 16 samples, and what a picture of 3 by 2 has there: luma 1 2 3 over 4 5 6, Cb 7 8, Cr 9 10.
@@ -233,24 +254,42 @@ const PADDED: [(u32, u32, u8); 8] = [
     (15, 15, 3),
 ];
 
-#[test]
-fn a_picture_is_padded_to_the_right_and_upwards(rt: HostRuntime) -> Result<(), Fail> {
-    let mut picture = Picture::new(rt.alloc(), 3, 2, 0)?;
+/// A place in chroma, and what is there in Cb and in Cr.
+const PADDED_CHROMA: [(u32, u32, u8, u8); 4] = [
+    (0, 0, 7, 9),
+    (0, 7, 7, 9),
+    (1, 0, 8, 10),
+    (7, 7, 8, 10),
+];
+
+// The picture, in a frame.
+#[tactic(auto, using(crate::proofs::CropLemmas::frame_of_ident))]
+fn padded(rt: &impl Abort, alloc: Global) -> Frame {
+    let picture = Picture::new(alloc, 3, 2, 0);
+    let mut picture = picture.expect(rt, "no memory");
     picture.y.copy_from_slice(&[1, 2, 3, 4, 5, 6]);
     picture.cb.copy_from_slice(&[7, 8]);
     picture.cr.copy_from_slice(&[9, 10]);
-    let mut frame = drawn_frame(rt.alloc(), &ident(&rt, [3, 2, 0, 0, 0]))?;
+    let mut frame = drawn_frame(rt, alloc, &ident(rt, [3, 2, 0, 0, 0]));
     picture.pad(&mut frame);
+    frame
+}
+
+// Whether a plane has a sample at a place.
+fn has(rt: &impl Abort, plane: &Plane, x: u32, y: u32, sample: u8) -> bool {
+    assert!(rt; x < plane.width() && y < plane.height());
+    plane.sample(x, y) == sample
+}
+
+#[test]
+fn a_picture_is_padded_to_the_right_and_upwards(rt: HostRuntime) {
+    let frame = padded(&rt, rt.alloc());
     assert!(rt; frame.y.sealed() && frame.cb.sealed() && frame.cr.sealed());
-    for (x, y, sample) in PADDED {
-        assert!(rt; x < frame.y.width() && y < frame.y.height());
-        assert_eq!(rt; frame.y.sample(x, y), sample, "{x} {y}");
+    for &(x, y, sample) in &PADDED {
+        holds(&rt, has(&rt, &frame.y, x, y, sample), &(x, y));
     }
-    for (x, y, cb, cr) in [(0, 0, 7, 9), (0, 7, 7, 9), (1, 0, 8, 10), (7, 7, 8, 10)] {
-        assert!(rt; x < frame.cb.width() && y < frame.cb.height());
-        assert!(rt; x < frame.cr.width() && y < frame.cr.height());
-        assert_eq!(rt; frame.cb.sample(x, y), cb, "{x} {y}");
-        assert_eq!(rt; frame.cr.sample(x, y), cr, "{x} {y}");
+    for &(x, y, cb, cr) in &PADDED_CHROMA {
+        holds(&rt, has(&rt, &frame.cb, x, y, cb), &(x, y));
+        holds(&rt, has(&rt, &frame.cr, x, y, cr), &(x, y));
     }
-    Ok(())
 }

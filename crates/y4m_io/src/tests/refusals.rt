@@ -1,6 +1,7 @@
 // Streams, read to their end or their first departure.
 ghost use Rattle.std.specs.Prelude.{◌<◌};
 
+use super::holds;
 use crate::Y4mFault::{Bad, ReadFault};
 use crate::Y4mWhy::{
     Aspect, Colour, Empty, Field, Frame, Interlace, Line, Magic, Rate, Short, Size,
@@ -8,7 +9,6 @@ use crate::Y4mWhy::{
 use crate::*;
 use std::alloc::Global;
 use std::process::Abort;
-use std::test::Fail;
 use vid_desk::{Desk, MemDesk};
 
 /// Pictures, and the fault behind them, where there is one.
@@ -120,9 +120,9 @@ const HEADS: [(&[u8], Y4mWhy); 45] = [
 
 #[test]
 fn a_head_is_refused_by_its_first_departure(rt: HostRuntime) {
-    for (head, why) in HEADS {
+    for &(head, why) in &HEADS {
         let got = outcome(&rt, rt.alloc(), head, None);
-        assert!(rt; is_as_expected(got, (0, Some(why))), "{head:?}");
+        holds(&rt, is_as_expected(got, (0, Some(why))), &head);
     }
 }
 
@@ -165,7 +165,7 @@ fn an_input_may_end_at_any_byte(rt: HostRuntime) {
         for size in *from..past.min(45) {
             assert!(rt; size <= TWO.len());
             let got = outcome(&rt, rt.alloc(), &TWO[..size], None);
-            assert!(rt; is_as_expected(got, *expected), "{size} bytes");
+            holds(&rt, is_as_expected(got, *expected), &size);
         }
     }
 }
@@ -215,10 +215,10 @@ const STRETCHED: [(&[u8], usize, &[u8], Expected); 8] = [
 
 #[test]
 fn a_head_has_1024_bytes_at_most_and_a_frames_line_256(rt: HostRuntime) {
-    for (front, letters, back, expected) in STRETCHED {
+    for &(front, letters, back, expected) in &STRETCHED {
         let text = stretched(&rt, rt.alloc(), front, letters, back);
         let got = outcome(&rt, rt.alloc(), &text, None);
-        assert!(rt; is_as_expected(got, expected), "{letters} letters");
+        holds(&rt, is_as_expected(got, expected), &letters);
     }
 }
 
@@ -240,9 +240,9 @@ const FRAMES: [(&[u8], Expected); 6] = [
 
 #[test]
 fn a_frame_is_refused_by_its_first_departure(rt: HostRuntime) {
-    for (text, expected) in FRAMES {
+    for &(text, expected) in &FRAMES {
         let got = outcome(&rt, rt.alloc(), text, None);
-        assert!(rt; is_as_expected(got, expected), "{text:?}");
+        holds(&rt, is_as_expected(got, expected), &text);
     }
 }
 
@@ -251,7 +251,8 @@ fn a_read_that_fails_is_told(rt: HostRuntime) {
     // Call 0 looks for the input, and call 1 asks for its size.
     for call in 1..7 {
         let got = outcome(&rt, rt.alloc(), TWO, Some(call));
-        assert!(rt; got == (0, Some(ReadFault)), "call {call}");
+        holds(&rt, got == (0, Some(ReadFault)), &call);
     }
-    assert!(rt; outcome(&rt, rt.alloc(), TWO, Some(7)) == (1, Some(ReadFault)));
+    let got = outcome(&rt, rt.alloc(), TWO, Some(7));
+    holds(&rt, got == (1, Some(ReadFault)), &7);
 }
