@@ -4,6 +4,7 @@ ghost use Rattle.ogg_page.specs.Page.{HasShape};
 use crate::*;
 use ogg_page::{PageHead, write_page};
 use std::alloc::Global;
+use std::fmt::Debug;
 use std::process::Abort;
 use thr_setup::{import_setup, write_setup};
 use vid_desk::{Desk, MemDesk};
@@ -45,7 +46,23 @@ fn total(lacing: &[u8]) -> usize
 // Appends a page.
 fn add_page(rt: &impl Abort, out: &mut Vec<u8>, head: &PageHead, lacing: &[u8], body: &[u8]) {
     assert!(rt; head.flags < 8 && lacing.len() <= 255 && total(lacing) == body.len());
-    assert_eq!(rt; write_page(out, head, lacing, body), Ok(()));
+    assert!(rt; write_page(out, head, lacing, body).is_ok());
+}
+
+// A page: flags, granule position, serial and sequence number, lacing values, body.
+type Page<'a> = (u8, u64, u32, u32, &'a [u8], &'a [u8]);
+
+// Appends pages.
+fn add_pages(rt: &impl Abort, out: &mut Vec<u8>, pages: &[Page]) {
+    for &(flags, granule, serial, number, lacing, body) in pages {
+        let head = PageHead {
+            flags,
+            granule,
+            serial,
+            number,
+        };
+        add_page(rt, out, &head, lacing, body);
+    }
 }
 
 // Appends a page with these packets, each of them whole.
@@ -104,7 +121,7 @@ fn setup_packet(rt: &impl Abort, alloc: Global) -> Vec<u8>
         panic!(rt; "there is no setup")
     };
     let mut out = Vec::new(alloc);
-    assert_eq!(rt; write_setup(&setup, &mut out), Ok(()));
+    assert!(rt; write_setup(&setup, &mut out).is_ok());
     assert!(rt; out.len() == 2490);
     out
 }
@@ -139,78 +156,102 @@ fn loaded(
     Source::load(alloc, &mut desk, id)
 }
 
+// A row of a table holds.
+fn holds(rt: &impl Abort, so: bool, row: &impl Debug) {
+    assert!(rt; so, "{row:?}");
+}
+
+// A file that is loaded.
+fn source_of(rt: &impl Abort, alloc: Global, bytes: &[u8]) -> Source {
+    loaded(rt, alloc, bytes, None).expect(rt, "the file is not loaded")
+}
+
+// Whether loading a file is refused for this.
+fn is_refused(
+    rt: &impl Abort,
+    alloc: Global,
+    bytes: &[u8],
+    failing: Option<u64>,
+    fault: SourceFault,
+) -> bool {
+    loaded(rt, alloc, bytes, failing).err() == Some(fault)
+}
+
+// A source of one key frame tells its headers.
+fn tells_its_headers(rt: &impl Abort, source: &Source, setup: &[u8]) {
+    assert!(rt; source.frames() == 1 && source.links() == 1);
+    assert!(rt; source.is_key(0) && source.link_of(0) == 1);
+    assert!(rt; source.ident(1).shift == 6);
+    assert!(rt; source.setup(1).forest.full_row() == Some(0));
+    let headers = source.headers(1);
+    assert!(rt; headers.ident == IDENT.as_slice());
+    assert!(rt; headers.comment == COMMENT && headers.setup == setup);
+}
+
 #[test]
 fn a_file_of_one_key_frame_is_loaded(rt: HostRuntime) {
     let setup = setup_packet(&rt, rt.alloc());
     let bytes = file_of(&rt, rt.alloc(), &IDENT, COMMENT, &setup, &[(64, KEY)]);
-    assert_eq!(rt; bytes.len(), 70 + 2549 + 33);
-    let Ok(source) = loaded(&rt, rt.alloc(), &bytes, None) else {
-        panic!(&rt; "the file is not loaded")
-    };
-    assert_eq!(rt; (source.frames(), source.links()), (1, 1));
-    assert!(rt; source.frames() > 0 && source.is_key(0) && source.link_of(0) == 1);
-    assert_eq!(rt; source.ident(1).shift, 6);
-    assert_eq!(rt; source.setup(1).forest.full_row(), Some(0));
-    let headers = source.headers(1);
-    assert!(rt;
-        headers.ident == IDENT.as_slice()
-            && headers.comment == COMMENT
-            && headers.setup == setup.as_slice()
-    );
+    assert!(rt; bytes.len() == 70 + 2549 + 33);
+    let source = source_of(&rt, rt.alloc(), &bytes);
+    tells_its_headers(&rt, &source, &setup);
+}
+
+// Frames that decode.
+const DECODING: [&[Frame]; 3] = [
+    &[(64, &[0x3f, 0x00, 0x04, 0x8d, 0x00, 0x00])],
+    &[(64, KEY), (65, INTER), (66, &[])],
+    &[(64, KEY), (128, KEY), (129, INTER)],
+];
+
+// Whether all of these frames are loaded.
+fn are_loaded(rt: &impl Abort, alloc: Global, setup: &[u8], frames: &[Frame]) -> bool {
+    let bytes = file_of(rt, alloc, &IDENT, COMMENT, setup, frames);
+    source_of(rt, alloc, &bytes).frames() as usize == frames.len()
 }
 
 #[test]
 fn frames_that_decode_are_loaded(rt: HostRuntime) {
-    let alloc = rt.alloc();
-    let setup = setup_packet(&rt, alloc);
-    let rows: [&[Frame]; 3] = [
-        &[(64, &[0x3f, 0x00, 0x04, 0x8d, 0x00, 0x00])],
-        &[(64, KEY), (65, INTER), (66, &[])],
-        &[(64, KEY), (128, KEY), (129, INTER)],
-    ];
-    for frames in rows {
-        let bytes = file_of(&rt, alloc, &IDENT, COMMENT, &setup, frames);
-        let Ok(source) = loaded(&rt, alloc, &bytes, None) else {
-            panic!(&rt; "the file is not loaded")
-        };
-        assert_eq!(rt; source.frames() as usize, frames.len());
+    let setup = setup_packet(&rt, rt.alloc());
+    for frames in &DECODING {
+        assert!(rt; are_loaded(&rt, rt.alloc(), &setup, frames));
     }
+}
+
+// A setup header and a frame of 600 bytes, joined over pages between which pages of another stream stand.
+fn joined(rt: &impl Abort, alloc: Global, setup: &[u8], frame: &[u8]) -> Vec<u8> {
+    let setup = Vec::from_slice(alloc, setup).expect(rt, "no memory");
+    let frame = Vec::from_slice(alloc, frame).expect(rt, "no memory");
+    assert!(rt; setup.len() == 2490 && frame.len() == 600);
+    let (setup_front, setup_back) = setup.split_at(765);
+    let (frame_front, frame_back) = frame.split_at(510);
+    let mut front = Vec::new(alloc);
+    assert!(rt; front.extend_from_slice(COMMENT).is_ok());
+    assert!(rt; front.extend_from_slice(setup_front).is_ok());
+    let mut bytes = Vec::new(alloc);
+    add_pages(
+        rt,
+        &mut bytes,
+        &[
+            (2, 0, 1, 0, &[42], &IDENT),
+            (2, 0, 2, 0, &[5], b"other"),
+            (0, 0, 1, 1, &[21, 255, 255, 255], &front),
+            (0, 0, 2, 1, &[5], b"other"),
+            (1, 0, 1, 2, &[255, 255, 255, 255, 255, 255, 195], setup_back),
+            (0, u64::MAX, 1, 3, &[255, 255], frame_front),
+            (4, 0, 2, 2, &[0], &[]),
+            (1, 65, 1, 4, &[90, 0], frame_back),
+        ],
+    );
+    bytes
 }
 
 #[test]
 fn packets_are_joined_over_pages_of_other_streams(rt: HostRuntime) {
-    let alloc = rt.alloc();
-    let setup = setup_packet(&rt, alloc);
-    let (setup_front, setup_back) = setup.split_at(765);
-    let frame = key_frame(&rt, alloc, 600);
-    let (frame_front, frame_back) = frame.split_at(510);
-    let mut front = Vec::new(alloc);
-    assert!(rt;
-        front.extend_from_slice(COMMENT).is_ok() && front.extend_from_slice(setup_front).is_ok()
-    );
-    let pages: [(u8, u64, u32, u32, &[u8], &[u8]); 8] = [
-        (2, 0, 1, 0, &[42], &IDENT),
-        (2, 0, 2, 0, &[5], b"other"),
-        (0, 0, 1, 1, &[21, 255, 255, 255], &front),
-        (0, 0, 2, 1, &[5], b"other"),
-        (1, 0, 1, 2, &[255, 255, 255, 255, 255, 255, 195], setup_back),
-        (0, u64::MAX, 1, 3, &[255, 255], frame_front),
-        (4, 0, 2, 2, &[0], &[]),
-        (1, 65, 1, 4, &[90, 0], frame_back),
-    ];
-    let mut bytes = Vec::new(alloc);
-    for (flags, granule, serial, number, lacing, body) in pages {
-        let head = PageHead {
-            flags,
-            granule,
-            serial,
-            number,
-        };
-        add_page(&rt, &mut bytes, &head, lacing, body);
-    }
-    let Ok(source) = loaded(&rt, alloc, &bytes, None) else {
-        panic!(&rt; "the file is not loaded")
-    };
+    let setup = setup_packet(&rt, rt.alloc());
+    let frame = key_frame(&rt, rt.alloc(), 600);
+    let bytes = joined(&rt, rt.alloc(), &setup, &frame);
+    let source = source_of(&rt, rt.alloc(), &bytes);
     assert!(rt; source.frames() == 2 && source.is_key(0) && !source.is_key(1));
     assert!(rt; source.headers(1).setup == setup.as_slice());
     assert!(rt; source.seekable());
@@ -232,14 +273,11 @@ fn a_file_of_many_pieces_is_loaded_unless_a_read_fails(rt: HostRuntime) {
         (512, &frame),
     ];
     let bytes = file_of(&rt, alloc, &IDENT, COMMENT, &setup, &frames);
-    assert_eq!(rt; bytes.len().div_ceil(65_307), 5);
+    assert!(rt; bytes.len().div_ceil(65_307) == 5);
     // The desk is first asked for the input and its size, and then for five pieces.
     for call in 1..7 {
-        assert_eq!(rt;
-            loaded(&rt, alloc, &bytes, Some(call)).err(),
-            Some(SourceFault::ReadFault),
-            "{call}"
-        );
+        let so = is_refused(&rt, alloc, &bytes, Some(call), SourceFault::ReadFault);
+        holds(&rt, so, &call);
     }
     assert!(rt; loaded(&rt, alloc, &bytes, Some(7)).is_ok_and(|source| source.frames() == 8));
 }

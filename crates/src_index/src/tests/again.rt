@@ -2,7 +2,10 @@
 ghost use Rattle.std.specs.Prelude.{◌≡◌, ◌<◌};
 ghost use Rattle.vid_desk.specs.Counts.{untold};
 
-use super::{COMMENT, Frame, IDENT, KEY, add_page, file_of, key_frame, setup_packet};
+use super::{
+    COMMENT, Frame, IDENT, KEY, add_page, add_pages, file_of, holds, key_frame, setup_packet,
+    source_of,
+};
 use crate::{Source, SourceFault, same_page};
 use ogg_page::PageHead;
 use std::alloc::Global;
@@ -46,37 +49,47 @@ pub(super) fn packet_of(
     gathered(rt, alloc, &mut desk, id, n)
 }
 
+// A file with a key frame, a packet of three pages, between which a page of another stream stands, and two empty ones
+// behind it.
+fn file_of_pages(rt: &impl Abort, alloc: Global, frame: &[u8]) -> Vec<u8> {
+    assert!(rt; frame.len() == 600);
+    let setup = setup_packet(rt, alloc);
+    let mut bytes = file_of(rt, alloc, &IDENT, COMMENT, &setup, &[(64, KEY)]);
+    let (first, rest) = frame.split_at(255);
+    let (middle, last) = rest.split_at(255);
+    add_pages(
+        rt,
+        &mut bytes,
+        &[
+            (0, u64::MAX, 1, 3, &[255], first),
+            (0, 0, 2, 0, &[5], b"other"),
+            (1, u64::MAX, 1, 4, &[255], middle),
+            (5, 130, 1, 5, &[90, 0, 0], last),
+        ],
+    );
+    bytes
+}
+
+// Whether the packet of a frame is this.
+pub(super) fn packet_is(rt: &impl Abort, alloc: Global, bytes: &[u8], n: u32, want: &[u8]) -> bool {
+    let packet = packet_of(rt, alloc, bytes, n).expect(rt, "there is no packet");
+    packet.as_slice() == want
+}
+
 #[test]
 fn packets_are_gathered_from_their_pages(rt: HostRuntime) {
     let alloc = rt.alloc();
-    let setup = setup_packet(&rt, alloc);
     let frame = key_frame(&rt, alloc, 600);
-    let mut bytes = file_of(&rt, alloc, &IDENT, COMMENT, &setup, &[(64, KEY)]);
-    // A packet of three pages, between which a page of another stream stands, and two empty ones behind it.
-    let (first, rest) = frame.split_at(255);
-    let (middle, last) = rest.split_at(255);
-    let pages: [(u8, u64, u32, u32, &[u8], &[u8]); 4] = [
-        (0, u64::MAX, 1, 3, &[255], first),
-        (0, 0, 2, 0, &[5], b"other"),
-        (1, u64::MAX, 1, 4, &[255], middle),
-        (5, 130, 1, 5, &[90, 0, 0], last),
-    ];
-    for (flags, granule, serial, number, lacing, body) in pages {
-        let head = PageHead {
-            flags,
-            granule,
-            serial,
-            number,
-        };
-        add_page(&rt, &mut bytes, &head, lacing, body);
-    }
+    let bytes = file_of_pages(&rt, alloc, &frame);
     let rows: [(u32, &[u8]); 4] = [(0, KEY), (1, &frame), (2, &[]), (3, &[])];
-    for (n, want) in rows {
-        let Ok(packet) = packet_of(&rt, alloc, &bytes, n) else {
-            panic!(&rt; "there is no packet")
-        };
-        assert!(rt; packet.as_slice() == want, "{n}");
+    for &(n, want) in &rows {
+        holds(&rt, packet_is(&rt, alloc, &bytes, n, want), &n);
     }
+}
+
+fn quantiser(rt: &impl Abort, source: &Source, n: u32) -> u8 {
+    assert!(rt; n < source.frames());
+    source.quantiser(n)
 }
 
 #[test]
@@ -85,13 +98,10 @@ fn quantisers_are_those_of_the_latest_packets_with_bytes(rt: HostRuntime) {
     let setup = setup_packet(&rt, alloc);
     let frames: [Frame; 4] = [(64, KEY), (65, &[]), (66, &[0x7f, 0x2a, 0x80]), (67, &[])];
     let bytes = file_of(&rt, alloc, &IDENT, COMMENT, &setup, &frames);
-    let Ok(source) = super::loaded(&rt, alloc, &bytes, None) else {
-        panic!(&rt; "the file is not loaded")
-    };
+    let source = source_of(&rt, alloc, &bytes);
     assert!(rt; source.seekable());
     for (n, want) in [(0, 30), (1, 30), (2, 63), (3, 63)] {
-        assert!(rt; n < source.frames());
-        assert_eq!(rt; source.quantiser(n), want, "{n}");
+        holds(&rt, quantiser(&rt, &source, n) == want, &n);
     }
 }
 
@@ -180,28 +190,34 @@ impl Desk for Changing {
     }
 }
 
+// Why the frame of a file is not gathered, of which one byte is another from the second reading on.
+fn fault_of_change(
+    rt: &impl Abort,
+    alloc: Global,
+    setup: &[u8],
+    other: u64,
+) -> Option<SourceFault> {
+    let mut desk = Changing {
+        bytes: file_of(rt, alloc, &IDENT, COMMENT, setup, &[(64, KEY)]),
+        other,
+        reads: 0,
+        read_faults: 0,
+        write_faults: 0,
+        asked: 0,
+    };
+    gathered(rt, alloc, &mut desk, 0, 0).err()
+}
+
 #[test]
 fn a_page_that_changes_between_two_readings_is_told(rt: HostRuntime) {
-    let alloc = rt.alloc();
-    let setup = setup_packet(&rt, alloc);
+    let setup = setup_packet(&rt, rt.alloc());
     // The frame's page is bytes 2,619 to 2,651.
     for (other, want) in [
         (2_618, None),
         (2_619, Some(SourceFault::Changed)),
         (2_651, Some(SourceFault::Changed)),
     ] {
-        let mut desk = Changing {
-            bytes: file_of(&rt, alloc, &IDENT, COMMENT, &setup, &[(64, KEY)]),
-            other,
-            reads: 0,
-            read_faults: 0,
-            write_faults: 0,
-            asked: 0,
-        };
-        assert_eq!(rt;
-            gathered(&rt, alloc, &mut desk, 0, 0).err(),
-            want,
-            "{other}"
-        );
+        let fault = fault_of_change(&rt, rt.alloc(), &setup, other);
+        holds(&rt, fault == want, &other);
     }
 }

@@ -1,7 +1,7 @@
 // Pages that are cut by the end of a piece, and false pages. A piece has 65,307 bytes, and the first frame's page begins with
 // byte 2,619.
-use super::again::packet_of;
-use super::{COMMENT, IDENT, KEY, add_page, file_of, key_frame, loaded, setup_packet};
+use super::again::packet_is;
+use super::{COMMENT, IDENT, KEY, add_page, file_of, holds, key_frame, setup_packet, source_of};
 use ogg_page::PageHead;
 use std::alloc::Global;
 use std::process::Abort;
@@ -9,29 +9,32 @@ use std::process::Abort;
 // Where the body of the first frame's page begins, where that has 251 lacing values.
 const BODY: usize = 2_619 + 27 + 251;
 
+// Whether a page is read whole that begins so many bytes before the end of the first piece.
+fn is_read_before(rt: &impl Abort, alloc: Global, setup: &[u8], before: usize) -> bool {
+    assert!(rt; before < 28);
+    let frame = key_frame(rt, alloc, 62_416 - before);
+    let frames: [super::Frame; 2] = [(64, &frame), (128, KEY)];
+    let bytes = file_of(rt, alloc, &IDENT, COMMENT, setup, &frames);
+    assert!(rt; bytes.len() == 65_307 - before + 33);
+    packet_is(rt, alloc, &bytes, 1, KEY)
+}
+
+// A file that is longer than a piece by one byte.
+fn is_read_behind(rt: &impl Abort, alloc: Global, setup: &[u8]) -> bool {
+    let frame = key_frame(rt, alloc, 62_417);
+    let bytes = file_of(rt, alloc, &IDENT, COMMENT, setup, &[(64, &frame)]);
+    assert!(rt; bytes.len() == 65_308);
+    packet_is(rt, alloc, &bytes, 0, &frame)
+}
+
 #[test]
 fn a_page_is_read_wherever_a_piece_ends(rt: HostRuntime) {
-    let alloc = rt.alloc();
-    let setup = setup_packet(&rt, alloc);
-    // The second frame's page begins so many bytes before the end of the first piece.
-    for before in 0..28 {
-        let frame = key_frame(&rt, alloc, 62_416 - before);
-        let frames: [super::Frame; 2] = [(64, &frame), (128, KEY)];
-        let bytes = file_of(&rt, alloc, &IDENT, COMMENT, &setup, &frames);
-        assert_eq!(rt; bytes.len(), 65_307 - before + 33);
-        let Ok(packet) = packet_of(&rt, alloc, &bytes, 1) else {
-            panic!(&rt; "there is no packet")
-        };
-        assert!(rt; packet.as_slice() == KEY, "{before}");
+    let setup = setup_packet(&rt, rt.alloc());
+    for before in 0..28usize {
+        let so = is_read_before(&rt, rt.alloc(), &setup, before);
+        holds(&rt, so, &before);
     }
-    // A file that is longer than a piece by one byte.
-    let frame = key_frame(&rt, alloc, 62_417);
-    let bytes = file_of(&rt, alloc, &IDENT, COMMENT, &setup, &[(64, &frame)]);
-    assert_eq!(rt; bytes.len(), 65_308);
-    let Ok(packet) = packet_of(&rt, alloc, &bytes, 0) else {
-        panic!(&rt; "there is no packet")
-    };
-    assert!(rt; packet.as_slice() == frame.as_slice());
+    assert!(rt; is_read_behind(&rt, rt.alloc(), &setup));
 }
 
 // Whether a file is seekable, of which the one frame has 64,000 bytes and holds others from a byte on.
@@ -40,10 +43,7 @@ fn is_seekable(rt: &impl Abort, alloc: Global, setup: &[u8], held: &[u8], at: us
     assert!(rt; held.len() <= 64_000 && at <= 64_000 - held.len());
     frame[at..at + held.len()].copy_from_slice(held);
     let bytes = file_of(rt, alloc, &IDENT, COMMENT, setup, &[(64, &frame)]);
-    let Ok(source) = loaded(rt, alloc, &bytes, None) else {
-        panic!(rt; "the file is not loaded")
-    };
-    source.seekable()
+    source_of(rt, alloc, &bytes).seekable()
 }
 
 #[test]
@@ -73,7 +73,7 @@ fn a_whole_page_inside_another_is_a_false_one(rt: HostRuntime) {
         first_piece - 28,
         first_piece - 29,
     ] {
-        assert!(rt; !is_seekable(&rt, alloc, &setup, &page, at), "{at}");
+        holds(&rt, !is_seekable(&rt, alloc, &setup, &page, at), &at);
     }
     assert!(rt; page.len() == 29);
     page[28] ^= 1;

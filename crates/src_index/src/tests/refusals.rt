@@ -1,10 +1,14 @@
 // Each fault of judging has a smallest file.
 ghost use Rattle.vid_desk.specs.Counts.{untold};
 
-use super::{COMMENT, Frame, IDENT, INTER, KEY, file_of, loaded, setup_packet};
+use super::{
+    COMMENT, Frame, IDENT, INTER, KEY, file_of, holds, is_refused, setup_packet, source_of,
+};
 use crate::{Source, SourceFault};
 use ogg_link::LinkFault;
 use ogg_page::PageFault;
+use std::alloc::Global;
+use std::process::Abort;
 use vid_base::PacketFault;
 use vid_desk::{Desk, DeskFault, Failed};
 
@@ -14,6 +18,20 @@ const NO_SHIFT: [u8; 42] = [
     0x10, 0x00, 0x00, 0x10, 0x00, 0x00, 0x00, 0x00, 0x00, 0x19, 0x00, 0x00, 0x00, 0x01, 0x00, 0x00,
     0x01, 0x00, 0x00, 0x01, 0x00, 0x00, 0x00, 0x00, 0x78, 0x00,
 ];
+
+// Whether a file with these headers and frames is refused for this.
+fn file_is_refused(
+    rt: &impl Abort,
+    alloc: Global,
+    ident: &[u8],
+    comment: &[u8],
+    setup: &[u8],
+    frames: &[Frame],
+    fault: SourceFault,
+) -> bool {
+    let bytes = file_of(rt, alloc, ident, comment, setup, frames);
+    is_refused(rt, alloc, &bytes, None, fault)
+}
 
 #[test]
 fn the_first_fault_of_the_frames_is_answered(rt: HostRuntime) {
@@ -126,13 +144,9 @@ fn the_first_fault_of_the_frames_is_answered(rt: HostRuntime) {
         ),
         ("a position of another shift", &IDENT, &[(1, KEY)], granule),
     ];
-    for (name, ident, frames, want) in rows {
-        let bytes = file_of(&rt, rt.alloc(), ident, COMMENT, &setup, frames);
-        assert_eq!(rt;
-            loaded(&rt, rt.alloc(), &bytes, None).err(),
-            Some(want),
-            "{name}"
-        );
+    for &(name, ident, frames, want) in &rows {
+        let so = file_is_refused(&rt, rt.alloc(), ident, COMMENT, &setup, frames, want);
+        holds(&rt, so, &name);
     }
 }
 
@@ -148,17 +162,18 @@ fn the_first_fault_of_the_headers_is_answered(rt: HostRuntime) {
         (&IDENT, b"\x81theora", &setup, 1, PacketFault::CommentLength),
         (&IDENT, COMMENT, cut, 2, PacketFault::Ended),
     ];
-    for (ident, comment, setup, packet, fault) in rows {
-        let bytes = file_of(&rt, alloc, ident, comment, setup, &[(64, KEY)]);
+    for &(ident, comment, setup, packet, fault) in &rows {
         let want = SourceFault::Bad {
             link: 1,
             packet,
             fault,
         };
-        assert_eq!(rt; loaded(&rt, alloc, &bytes, None).err(), Some(want));
+        let frames: [Frame; 1] = [(64, KEY)];
+        let so = file_is_refused(&rt, alloc, ident, comment, setup, &frames, want);
+        holds(&rt, so, &packet);
     }
     let bytes = file_of(&rt, alloc, &IDENT, COMMENT, &setup, &[]);
-    assert!(rt; loaded(&rt, alloc, &bytes, None).is_ok_and(|source| source.frames() == 0));
+    assert!(rt; source_of(&rt, alloc, &bytes).frames() == 0);
 }
 
 #[test]
@@ -204,13 +219,10 @@ fn a_file_that_is_cut_or_changed_is_refused_at_its_page(rt: HostRuntime) {
             },
         ),
     ];
-    for (size, want) in rows {
+    for &(size, want) in &rows {
         assert!(rt; size <= bytes.len());
-        assert_eq!(rt;
-            loaded(&rt, alloc, &bytes[..size], None).err(),
-            Some(want),
-            "{size}"
-        );
+        let so = is_refused(&rt, alloc, &bytes[..size], None, want);
+        holds(&rt, so, &size);
     }
     assert!(rt; bytes.len() == 2653);
     bytes[2600] ^= 1;
@@ -218,7 +230,7 @@ fn a_file_that_is_cut_or_changed_is_refused_at_its_page(rt: HostRuntime) {
         at: 70,
         fault: PageFault::Checksum,
     };
-    assert_eq!(rt; loaded(&rt, alloc, &bytes, None).err(), Some(want));
+    assert!(rt; is_refused(&rt, alloc, &bytes, None, want));
 }
 
 // A desk with one input and one output, of which nothing is told but the length of the input. No call gives bytes.
@@ -273,6 +285,17 @@ impl Desk for LongInput {
     }
 }
 
+// Whether loading an input of this length is refused for this, and asks for so many bytes.
+fn is_refused_unread(alloc: Global, size: u64, fault: SourceFault, asked: u64) -> bool {
+    let mut desk = LongInput {
+        size,
+        read_faults: 0,
+        write_faults: 0,
+        asked: 0,
+    };
+    Source::load(alloc, &mut desk, 0).err() == Some(fault) && desk.asked == asked
+}
+
 #[test]
 fn a_file_that_is_too_long_is_refused_unread(rt: HostRuntime) {
     const LONGEST: u64 = 1 << 40;
@@ -280,13 +303,10 @@ fn a_file_that_is_too_long_is_refused_unread(rt: HostRuntime) {
         (LONGEST + 1, SourceFault::TooLong { bytes: LONGEST + 1 }, 0),
         (LONGEST, SourceFault::ReadFault, 65_307),
     ] {
-        let mut desk = LongInput {
-            size,
-            read_faults: 0,
-            write_faults: 0,
-            asked: 0,
-        };
-        assert_eq!(rt; Source::load(rt.alloc(), &mut desk, 0).err(), Some(fault));
-        assert_eq!(rt; desk.asked, asked);
+        holds(
+            &rt,
+            is_refused_unread(rt.alloc(), size, fault, asked),
+            &size,
+        );
     }
 }
